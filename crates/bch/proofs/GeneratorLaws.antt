@@ -9,7 +9,7 @@ use mathlib.Core.List.{List}
 use lib.Dec.{T, eqb, eqb→eq}
 use Rattle.galois.proofs.Tests.{and-left, and-right, eqList, eqList→, below, below→}
 use Rattle.bch.specs.Code.{syndrome}
-use Rattle.bch.specs.Generator.{generator, polyProduct, conjugates, generatorRule}
+use Rattle.bch.specs.Generator.{generator, polyProduct, conjugates, minimal, generatorRule}
 use Rattle.bch.proofs.Numbers.{word}
 use Rattle.bch.proofs.Recover.{recovers}
 use Rattle.bch.proofs.Inverse.{inverse}
@@ -21,7 +21,7 @@ unfoldable pub ruleTest : ℕ → ℕ → ℕ → List ℕ → Bool
 unfolding eqList word generator polyProduct conjugates
 ruleTest m zero t p = true
 ruleTest m (suc k) t p =
-    let q = polyProduct m p (conjugates m (2 * t + 1) m) in
+    let q = polyProduct m p (minimal m (2 * t + 1)) in
     eqList (word (suc (m * suc t)) (generator m (suc t))) q && ruleTest m k (suc t) q
 
 -- computed

@@ -5,7 +5,7 @@ use Prim.Native.Nat.{ℕ, zero, suc, _+_, _-_, _*_, _^_}
 use mathlib.Core.List.{List, [], _∷_, map}
 use lib.Bits.{bitXor}
 use lib.ListN.{getD}
-use Rattle.galois.specs.Field.{alpha, mul}
+use Rattle.galois.specs.Field.{times, mul}
 
 -- the generator of m and t, its coefficients as binary digits: a row for each m from 5, in it t from 1 to 3.  (The rows of
 -- m = 9 and 10 are of codes that document 01 does not have; the laws hold for them too.)
@@ -27,20 +27,29 @@ polySum [] q = q
 polySum (a ∷ p) [] = a ∷ p
 polySum (a ∷ p) (b ∷ q) = bitXor a b ∷ polySum p q
 
--- their product over the field of 2^m elements
+-- the product of two polynomials over the field of 2^m elements
 unfoldable pub polyProduct : ℕ → List ℕ → List ℕ → List ℕ
 unfolding polySum mul
 polyProduct m [] q = []
 polyProduct m (a ∷ p) q = polySum (map (mul m a) q) (0 ∷ polyProduct m p q)
 
+-- the product of p with x + α^e: x·p + α^e·p
+unfoldable pub withRoot : ℕ → ℕ → List ℕ → List ℕ
+unfolding polySum times
+withRoot m e p = polySum (0 ∷ p) (map (times m e) p)
+
 -- the product of x + α^(i·2^j) for j below k
 unfoldable pub conjugates : ℕ → ℕ → ℕ → List ℕ
-unfolding polyProduct alpha
+unfolding withRoot
 conjugates m i zero = 1 ∷ []
-conjugates m i (suc k) = polyProduct m (alpha m (i * 2 ^ k) ∷ 1 ∷ []) (conjugates m i k)
+conjugates m i (suc k) = withRoot m (i * 2 ^ k) (conjugates m i k)
 
--- the product of the minimal polynomials of α, α^3, .., α^(2t-1), each that of the m conjugates
+-- the minimal polynomial of α^i
+abbrev pub minimal : ℕ → ℕ → List ℕ
+minimal m i = conjugates m i m
+
+-- the product of the minimal polynomials of α, α^3, .., α^(2t-1)
 unfoldable pub generatorRule : ℕ → ℕ → List ℕ
 unfolding polyProduct conjugates
 generatorRule m zero = 1 ∷ []
-generatorRule m (suc t) = polyProduct m (generatorRule m t) (conjugates m (2 * t + 1) m)
+generatorRule m (suc t) = polyProduct m (generatorRule m t) (minimal m (2 * t + 1))
