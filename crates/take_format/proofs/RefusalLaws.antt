@@ -1,0 +1,156 @@
+-- Laws of the checks: what holds where none of them refuses. Assumes nothing.
+use Prim.Native.Nat.{ℕ, suc, _+_, _-_, _^_, _≤_}
+use native.Mathlib.Omega.{arith}
+use mathlib.Core.Path.{_≡_, refl}
+use mathlib.Core.Bool.{Bool, true, false, _&&_}
+use mathlib.Core.List.{List, [], _∷_, _++_}
+use mathlib.Core.Option.{Option, none, some}
+use lib.Dec.{T, leb, eqb, leb→le, eqb→eq}
+use lib.ListN.{length}
+use borrow.Author.Tests.{leb-true}
+use Rattle.galois.proofs.Tests.{and-left, and-right}
+use Rattle.bch.specs.Words.{Below, Bits}
+use Rattle.bch.specs.Code.{Code, IsCode, parityLength, wordLength}
+use Rattle.chase.specs.Word.{Symbols}
+use Rattle.take_format.specs.Refusal.{Refusal, unless, unlessAtMost, firstOf, settings, depthCheck, inputLength, outputLength, bitBytes, symbolBytes, bitsRefusal, softRefusal}
+
+-- ---- a list of checks
+
+-- a refusal is not none
+pub some-not-none : {X : Type 0} (r : Refusal) → _≡_ {A = Option Refusal} (some r) none → X
+some-not-none r e = let z : _≡_ {A = ℕ} 0 1 = cc in absurd (omega arith)
+
+-- where none of a list of checks refuses, neither the first does nor the others, ..
+pub first-cons : (o : Option Refusal) (os : List (Option Refusal)) → firstOf (o ∷ os) ≡ none → (o ≡ none) × (firstOf os ≡ none)
+unfolding firstOf
+first-cons none os e = (refl, e)
+first-cons (some r) os e = some-not-none r e
+
+-- .. and of two lists that are joined, neither does
+pub first-append : (os ps : List (Option Refusal)) → firstOf (os ++ ps) ≡ none → (firstOf os ≡ none) × (firstOf ps ≡ none)
+unfolding firstOf
+first-append [] ps e = (refl, e)
+first-append (none ∷ os) ps e = first-append os ps e
+first-append (some r ∷ os) ps e = some-not-none r e
+
+-- ---- one check
+
+-- its test holds
+pub unless-none : (k : ℕ) (b : Bool) → unless k b ≡ none → T b
+unfolding unless
+unless-none k true e = tt
+unless-none k false e = some-not-none (record { number = k; place = 0 }) e
+
+-- two tests hold
+both-none : (k : ℕ) (a b : Bool) → unless k (a && b) ≡ none → T a × T b
+both-none k a b e = let h = unless-none k (a && b) e in (and-left a b h, and-right a b h)
+
+-- every element is at most `most`
+pub most-none : (k most at : ℕ) (xs : List ℕ) → unlessAtMost k most at xs ≡ none → Below (suc most) xs
+unfolding unlessAtMost Below
+most-none k most at [] e = tt
+most-none k most at (x ∷ xs) e = go (leb x most) refl e (most-none k most (suc at) xs)
+  where
+    go : (b : Bool) → leb x most ≡ b
+        → _≡_ {A = Option Refusal} (elim b [ true ↦ unlessAtMost k most (suc at) xs | false ↦ some (record { number = k; place = at }) ]) none
+        → (unlessAtMost k most (suc at) xs ≡ none → Below (suc most) xs) → Below (suc most) (x ∷ xs)
+    go true h e f = (omega (arith, leb-true x most h), f e)
+    go false h e f = some-not-none (record { number = k; place = at }) e
+
+-- the settings name a code
+pub settings-code : (c : Code) → firstOf (settings c) ≡ none → IsCode c
+unfolding settings
+settings-code c e =
+    let (em, rest) = first-cons (unless 1 (leb 5 (c .m) && leb (c .m) 8)) _ e in
+    let (et, last) = first-cons (unless 2 (leb 1 (c .t) && leb (c .t) 3)) _ rest in
+    let (en, _) = first-cons (unless 3 (leb (parityLength c + 1) (c .n) && leb (c .n) (2 ^ c .m - 1))) _ last in
+    let m = both-none 1 (leb 5 (c .m)) (leb (c .m) 8) em in
+    let t = both-none 2 (leb 1 (c .t)) (leb (c .t) 3) et in
+    let n = both-none 3 (leb (parityLength c + 1) (c .n)) (leb (c .n) (2 ^ c .m - 1)) en in
+    record {
+      m-least = leb→le 5 (c .m) (m .0);
+      m-most = leb→le (c .m) 8 (m .1);
+      t-least = leb→le 1 (c .t) (t .0);
+      t-most = leb→le (c .t) 3 (t .1);
+      n-least = leb→le (parityLength c + 1) (c .n) (n .0);
+      n-most = leb→le (c .n) (2 ^ c .m - 1) (n .1);
+    }
+
+-- the depth is at most 6, ..
+pub depth-none : (p : ℕ) → depthCheck p ≡ none → p ≤ 6
+unfolding depthCheck
+depth-none p e = leb→le p 6 (unless-none 4 (leb p 6) e)
+
+-- .. an input is as long as asked, ..
+pub input-none : (n : ℕ) (xs : List ℕ) → inputLength n xs ≡ none → length xs ≡ n
+unfolding inputLength
+input-none n xs e = eqb→eq (length xs) n (unless-none 6 (eqb (length xs) n) e)
+
+-- .. and so is an output
+pub output-none : (n : ℕ) (xs : List ℕ) → outputLength n xs ≡ none → length xs ≡ n
+unfolding outputLength
+output-none n xs e = eqb→eq (length xs) n (unless-none 7 (eqb (length xs) n) e)
+
+-- bytes are bits, ..
+pub bits-none : (xs : List ℕ) → bitBytes xs ≡ none → Bits xs
+unfolding bitBytes
+bits-none xs e = most-none 8 1 0 xs e
+
+-- .. or symbols
+pub symbols-none : (at : ℕ) (xs : List ℕ) → symbolBytes at xs ≡ none → Symbols xs
+unfolding symbolBytes
+symbols-none at xs e = most-none 9 31 at xs e
+
+-- ---- the calls on one word
+
+-- what the checks of a call on k bits leave
+pub record BitsAccepted (c : Code) (k : ℕ) (bits codeword : List ℕ) : Type 0 where
+  pub isCode : IsCode c
+  pub long : length bits ≡ k
+  pub room : length codeword ≡ wordLength c
+  pub are-bits : Bits bits
+
+pub bits-accepted : (c : Code) (k : ℕ) (bits codeword : List ℕ) → bitsRefusal c k bits codeword ≡ none → BitsAccepted c k bits codeword
+unfolding bitsRefusal
+bits-accepted c k bits codeword e =
+    let i = inputLength k bits in
+    let o = outputLength (wordLength c) codeword in
+    let b = bitBytes bits in
+    let (s, call) = first-append (settings c) (i ∷ o ∷ b ∷ []) e in
+    let (hi, rest) = first-cons i (o ∷ b ∷ []) call in
+    let (ho, last) = first-cons o (b ∷ []) rest in
+    let (hb, _) = first-cons b [] last in
+    record {
+      isCode = settings-code c s;
+      long = input-none k bits hi;
+      room = output-none (wordLength c) codeword ho;
+      are-bits = bits-none bits hb;
+    }
+
+-- what those of the soft stage leave
+pub record SoftAccepted (c : Code) (p : ℕ) (symbols codeword : List ℕ) : Type 0 where
+  pub isCode : IsCode c
+  pub depth : p ≤ 6
+  pub long : length symbols ≡ wordLength c
+  pub room : length codeword ≡ wordLength c
+  pub are-symbols : Symbols symbols
+
+pub soft-accepted : (c : Code) (p : ℕ) (symbols codeword : List ℕ) → softRefusal c p symbols codeword ≡ none → SoftAccepted c p symbols codeword
+unfolding softRefusal
+soft-accepted c p symbols codeword e =
+    let d = depthCheck p in
+    let i = inputLength (wordLength c) symbols in
+    let o = outputLength (wordLength c) codeword in
+    let b = symbolBytes 0 symbols in
+    let (s, call) = first-append (settings c) (d ∷ i ∷ o ∷ b ∷ []) e in
+    let (hd, more) = first-cons d (i ∷ o ∷ b ∷ []) call in
+    let (hi, rest) = first-cons i (o ∷ b ∷ []) more in
+    let (ho, last) = first-cons o (b ∷ []) rest in
+    let (hb, _) = first-cons b [] last in
+    record {
+      isCode = settings-code c s;
+      depth = depth-none p hd;
+      long = input-none (wordLength c) symbols hi;
+      room = output-none (wordLength c) codeword ho;
+      are-symbols = symbols-none 0 symbols hb;
+    }
