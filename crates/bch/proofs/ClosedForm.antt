@@ -1,14 +1,16 @@
 -- The hard stage in closed form: the positions to flip, from a word's syndromes and tables of solutions, without a search
 -- over the positions. Assumes nothing but what the tables that t needs are asked to be; and there are such tables.
 use Prim.Native.Nat.{ℕ}
-use mathlib.Core.Path.{_≡_}
-use mathlib.Core.List.{List}
-use mathlib.Core.Option.{Option, some, Option·map}
+use mathlib.Core.Path.{_≡_, refl}
+use mathlib.Core.List.{List, [], _∷_, map}
+use mathlib.Core.Option.{Option, none, some, Option·map}
 use lib.ListN.{length}
+use Rattle.galois.specs.Field.{mul}
 use Rattle.bch.specs.Words.{Bits, Distinct, flippedAt}
 use Rattle.bch.specs.Code.{Code, syndrome, wordLength}
 use Rattle.bch.specs.Hard.{repaired, hardStage}
 use Rattle.bch.proofs.Settings.{Lawful, primitive-of}
+use Rattle.bch.proofs.Positions.{sumAt}
 use Rattle.bch.proofs.Decoder.{attempted, FindsFor, repaired-tried, tried-distinct, hard-tried}
 use Rattle.bch.proofs.Elements.{Quadratics, elements, elements-find}
 use Rattle.bch.proofs.KappaDecoder.{Kappas, kappas, kappas-more}
@@ -73,3 +75,27 @@ pub hard-closed : (c : Code) → Lawful c → (xs : List ℕ) → length xs ≡ 
 unfolding closedForm
 hard-closed c isCode xs long bits =
     hard-located c isCode (quadOf (c .m)) (firstOf (c .m)) (secondOf (c .m)) (solved (c .m) (c .t)) xs long bits
+
+-- ---- worked cases: one for each way through it
+
+-- what is found for the sums over given positions, in the order in which it is computed
+foundFor : ℕ → ℕ → ℕ → List ℕ → Option (List ℕ)
+unfolding located quadOf firstOf secondOf sumAt mul
+foundFor m t n P = located m t n (quadOf m) (firstOf m) (secondOf m) (sumAt m 1 P) (sumAt m 3 P) (sumAt m 5 P)
+
+-- t = 2: none, one, two; one of two at or beyond n; more than t
+two-cases : map (foundFor 5 2 20) ([] ∷ (7 ∷ []) ∷ (3 ∷ 19 ∷ []) ∷ (3 ∷ 20 ∷ []) ∷ (0 ∷ 1 ∷ 2 ∷ []) ∷ [])
+    ≡ some [] ∷ some (7 ∷ []) ∷ some (3 ∷ 19 ∷ []) ∷ none ∷ none ∷ []
+unfolding foundFor
+two-cases = refl
+
+-- t = 3: none, one, two and three by κ; one of three at or beyond n
+three-cases : map (foundFor 5 3 20) ([] ∷ (7 ∷ []) ∷ (3 ∷ 19 ∷ []) ∷ (0 ∷ 1 ∷ 2 ∷ []) ∷ (0 ∷ 1 ∷ 20 ∷ []) ∷ [])
+    ≡ some [] ∷ some (7 ∷ []) ∷ some (3 ∷ 19 ∷ []) ∷ some (0 ∷ 1 ∷ 2 ∷ []) ∷ none ∷ []
+unfolding foundFor
+three-cases = refl
+
+-- three by cube roots
+cube-case : foundFor 6 3 40 (0 ∷ 1 ∷ 8 ∷ []) ≡ some (8 ∷ 0 ∷ 1 ∷ [])
+unfolding foundFor
+cube-case = refl
