@@ -5,9 +5,9 @@ use mathlib.Core.Path.{_≡_, refl}
 use mathlib.Core.Bool.{Bool, true, false, _&&_}
 use mathlib.Core.List.{List, [], _∷_, _++_}
 use mathlib.Core.Option.{Option, none, some}
+use borrow.Author.Tests.{leb-true}
 use lib.Dec.{T, leb, eqb, leb→le, eqb→eq}
 use lib.ListN.{length}
-use borrow.Author.Tests.{leb-true}
 use Rattle.galois.proofs.Tests.{and-left, and-right}
 use Rattle.bch.specs.Words.{Below, Bits}
 use Rattle.bch.specs.Code.{Code, IsCode, parityLength, wordLength}
