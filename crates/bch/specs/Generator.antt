@@ -7,8 +7,8 @@ use lib.Bits.{bitXor}
 use lib.ListN.{getD}
 use Rattle.galois.specs.Field.{times, mul}
 
--- the generator of m and t, its coefficients as binary digits: a row for each m from 5, in it t from 1 to 3.  (The rows of
--- m = 9 and 10 are of codes that document 01 does not have; the laws hold for them too.)
+-- the generator of m and t, its coefficients as binary digits, in octal as tables print them: a row for each m from 5, in it
+-- t from 1 to 3.  (The rows of m = 9 and 10 go beyond document 01; the laws hold for them too.)
 unfoldable pub generator : ℕ → ℕ → ℕ
 generator m t =
     getD (getD ((0o45 ∷ 0o3551 ∷ 0o107657 ∷ [])
