@@ -12,7 +12,7 @@ use Rattle.galois.proofs.Tests.{and-left, and-right}
 use Rattle.bch.specs.Words.{Below, Bits}
 use Rattle.bch.specs.Code.{Code, IsCode, parityLength, wordLength}
 use Rattle.chase.specs.Word.{Symbols}
-use Rattle.take_format.specs.Refusal.{Refusal, unless, unlessAtMost, firstOf, settings, depthCheck, inputLength, outputLength, bitBytes, symbolBytes, bitsRefusal, softRefusal}
+use Rattle.take_format.specs.Refusal.{Refusal, refused, unless, unlessAtMost, firstOf, settings, depthCheck, inputLength, outputLength, bitBytes, symbolBytes, bitsRefusal, softRefusal}
 
 -- ---- a list of checks
 
@@ -52,7 +52,7 @@ most-none k most at [] e = tt
 most-none k most at (x ∷ xs) e = go (leb x most) refl e (most-none k most (suc at) xs)
   where
     go : (b : Bool) → leb x most ≡ b
-        → _≡_ {A = Option Refusal} (elim b [ true ↦ unlessAtMost k most (suc at) xs | false ↦ some (record { number = k; place = at }) ]) none
+        → _≡_ {A = Option Refusal} (elim b [ true ↦ unlessAtMost k most (suc at) xs | false ↦ refused k at ]) none
         → (unlessAtMost k most (suc at) xs ≡ none → Below (suc most) xs) → Below (suc most) (x ∷ xs)
     go true h e f = (omega (arith, leb-true x most h), f e)
     go false h e f = some-not-none (record { number = k; place = at }) e
@@ -94,12 +94,12 @@ output-none n xs e = eqb→eq (length xs) n (unless-none 7 (eqb (length xs) n) e
 -- bytes are bits, ..
 pub bits-none : (xs : List ℕ) → bitBytes xs ≡ none → Bits xs
 unfolding bitBytes
-bits-none xs e = most-none 8 1 0 xs e
+bits-none xs e = most-none 8 1 _ xs e
 
 -- .. or symbols
 pub symbols-none : (at : ℕ) (xs : List ℕ) → symbolBytes at xs ≡ none → Symbols xs
 unfolding symbolBytes
-symbols-none at xs e = most-none 9 31 at xs e
+symbols-none at xs e = most-none 9 31 _ xs e
 
 -- ---- the calls on one word
 
