@@ -1,18 +1,20 @@
 -- Laws of the checks: what holds where none of them refuses. Assumes nothing.
-use Prim.Native.Nat.{ℕ, suc, _+_, _-_, _^_, _≤_}
+use Prim.Native.Nat.{ℕ, suc, _+_, _-_, _^_, _≤_, _<_}
 use native.Mathlib.Omega.{arith}
+use native.Mathlib.Numerals.{add-one}
 use mathlib.Core.Path.{_≡_, refl}
 use mathlib.Core.Bool.{Bool, true, false, _&&_}
 use mathlib.Core.List.{List, [], _∷_, _++_}
 use mathlib.Core.Option.{Option, none, some}
-use borrow.Author.Tests.{leb-true}
+use borrow.Author.Tests.{leb-true, le-leb, lt-leb}
 use lib.Dec.{T, leb, eqb, leb→le, eqb→eq}
-use lib.ListN.{length}
+use lib.ListN.{length, getD, drop}
+use lib.Seq.{drop-cons, drop-length}
 use Rattle.galois.proofs.Tests.{and-left, and-right}
 use Rattle.bch.specs.Words.{Below, Bits}
 use Rattle.bch.specs.Code.{Code, IsCode, parityLength, wordLength}
 use Rattle.chase.specs.Word.{Symbols}
-use Rattle.take_format.specs.Refusal.{Refusal, refused, unless, unlessAtMost, firstOf, settings, depthCheck, inputLength, outputLength, bitBytes, symbolBytes, bitsRefusal, softRefusal}
+use Rattle.take_format.specs.Refusal.{Refusal, refused, unless, unlessAtMost, firstOf, settings, depthCheck, inputLength, outputLength, bitBytes, symbolBytes, bitsCheck, bitsRefusal, softRefusal}
 
 -- ---- a list of checks
 
@@ -32,6 +34,12 @@ unfolding firstOf
 first-append [] ps e = (refl, e)
 first-append (none ∷ os) ps e = first-append os ps e
 first-append (some r ∷ os) ps e = some-not-none r e
+
+-- the last check decides where no other refuses
+pub first-last : (o : Option Refusal) → firstOf (o ∷ []) ≡ o
+unfolding firstOf
+first-last none = refl
+first-last (some r) = refl
 
 -- ---- one check
 
@@ -56,6 +64,28 @@ most-none k most at (x ∷ xs) e = go (leb x most) refl e (most-none k most (suc
         → (unlessAtMost k most (suc at) xs ≡ none → Below (suc most) xs) → Below (suc most) (x ∷ xs)
     go true h e f = (omega (arith, leb-true x most h), f e)
     go false h e f = some-not-none (record { number = k; place = at }) e
+
+-- a check of bytes one after the other: the first that is above is refused, ..
+module _ (k most i : ℕ) (xs : List ℕ) where
+  pub above-here : i < length xs → most < getD xs i 0 → refused k i ≡ unlessAtMost k most i (drop i xs)
+  unfolding unlessAtMost
+  above-here h w = rw (drop-cons xs i 0 h, unlessAtMost, lt-leb (getD xs i 0) most w)
+
+  -- .. one that is not is passed over, ..
+  pub above-later : i < length xs → getD xs i 0 ≤ most → unlessAtMost k most i (drop i xs) ≡ unlessAtMost k most (i + 1) (drop (i + 1) xs)
+  unfolding unlessAtMost
+  above-later h w = rw (add-one, drop-cons xs i 0 h, unlessAtMost, le-leb (getD xs i 0) most w)
+
+  -- .. and at the end none is
+  pub above-none : i ≡ length xs → none ≡ unlessAtMost k most i (drop i xs)
+  unfolding unlessAtMost
+  above-none h = rw (h, drop-length)
+
+-- where no byte is above there is no refusal
+pub all-most : (k most at : ℕ) (xs : List ℕ) → ((i : ℕ) → i < length xs → getD xs i 0 ≤ most) → none ≡ unlessAtMost k most at xs
+unfolding unlessAtMost
+all-most k most at [] h = refl
+all-most k most at (x ∷ xs) h = rw (unlessAtMost, le-leb x most (h 0 (omega arith))) (all-most k most (suc at) xs (λ i l. h (suc i) (omega arith)))
 
 -- the settings name a code
 pub settings-code : (c : Code) → firstOf (settings c) ≡ none → IsCode c
@@ -82,14 +112,14 @@ unfolding depthCheck
 depth-none p e = leb→le p 6 (unless-none 4 (leb p 6) e)
 
 -- .. an input is as long as asked, ..
-pub input-none : (n : ℕ) (xs : List ℕ) → inputLength n xs ≡ none → length xs ≡ n
+pub input-none : (n long : ℕ) → inputLength n long ≡ none → long ≡ n
 unfolding inputLength
-input-none n xs e = eqb→eq (length xs) n (unless-none 6 (eqb (length xs) n) e)
+input-none n long e = eqb→eq long n (unless-none 6 (eqb long n) e)
 
 -- .. and so is an output
-pub output-none : (n : ℕ) (xs : List ℕ) → outputLength n xs ≡ none → length xs ≡ n
+pub output-none : (n room : ℕ) → outputLength n room ≡ none → room ≡ n
 unfolding outputLength
-output-none n xs e = eqb→eq (length xs) n (unless-none 7 (eqb (length xs) n) e)
+output-none n room e = eqb→eq room n (unless-none 7 (eqb room n) e)
 
 -- bytes are bits, ..
 pub bits-none : (xs : List ℕ) → bitBytes xs ≡ none → Bits xs
@@ -111,19 +141,20 @@ pub record BitsAccepted (c : Code) (k : ℕ) (bits codeword : List ℕ) : Type 0
   pub are-bits : Bits bits
 
 pub bits-accepted : (c : Code) (k : ℕ) (bits codeword : List ℕ) → bitsRefusal c k bits codeword ≡ none → BitsAccepted c k bits codeword
-unfolding bitsRefusal
+unfolding bitsRefusal bitsCheck
 bits-accepted c k bits codeword e =
-    let i = inputLength k bits in
-    let o = outputLength (wordLength c) codeword in
+    let i = inputLength k (length bits) in
+    let o = outputLength (wordLength c) (length codeword) in
     let b = bitBytes bits in
-    let (s, call) = first-append (settings c) (i ∷ o ∷ b ∷ []) e in
-    let (hi, rest) = first-cons i (o ∷ b ∷ []) call in
+    let (s, call) = first-append (settings c) (firstOf (i ∷ o ∷ b ∷ []) ∷ []) e in
+    let (all, _) = first-cons (firstOf (i ∷ o ∷ b ∷ [])) [] call in
+    let (hi, rest) = first-cons i (o ∷ b ∷ []) all in
     let (ho, last) = first-cons o (b ∷ []) rest in
     let (hb, _) = first-cons b [] last in
     record {
       isCode = settings-code c s;
-      long = input-none k bits hi;
-      room = output-none (wordLength c) codeword ho;
+      long = input-none k (length bits) hi;
+      room = output-none (wordLength c) (length codeword) ho;
       are-bits = bits-none bits hb;
     }
 
@@ -139,8 +170,8 @@ pub soft-accepted : (c : Code) (p : ℕ) (symbols codeword : List ℕ) → softR
 unfolding softRefusal
 soft-accepted c p symbols codeword e =
     let d = depthCheck p in
-    let i = inputLength (wordLength c) symbols in
-    let o = outputLength (wordLength c) codeword in
+    let i = inputLength (wordLength c) (length symbols) in
+    let o = outputLength (wordLength c) (length codeword) in
     let b = symbolBytes 0 symbols in
     let (s, call) = first-append (settings c) (d ∷ i ∷ o ∷ b ∷ []) e in
     let (hd, more) = first-cons d (i ∷ o ∷ b ∷ []) call in
@@ -150,7 +181,7 @@ soft-accepted c p symbols codeword e =
     record {
       isCode = settings-code c s;
       depth = depth-none p hd;
-      long = input-none (wordLength c) symbols hi;
-      room = output-none (wordLength c) codeword ho;
+      long = input-none (wordLength c) (length symbols) hi;
+      room = output-none (wordLength c) (length codeword) ho;
       are-symbols = symbols-none 0 symbols hb;
     }

@@ -1,0 +1,40 @@
+-- What the calls on one word answer, and what they leave in the caller's codeword buffer (document 01, "Hard stage" and
+-- "Refusals, by their cause"): a call that refuses leaves it as it was, and so does a word that is lost. Assumes nothing.
+use Prim.Native.Nat.{ℕ}
+use mathlib.Core.Logic.{_⊎_, inl, inr}
+use mathlib.Core.List.{List}
+use mathlib.Core.Option.{Option, none, some, Option·map, Option·getD}
+use Rattle.bch.specs.Code.{Code}
+use Rattle.bch.specs.Encode.{encoded}
+use Rattle.bch.specs.Hard.{Repair, hardStage}
+use Rattle.take_format.specs.Refusal.{Refusal, encodeRefusal, hardRefusal}
+
+-- a call's answer: the refusal, where there is one
+unfoldable pub answered : {A : Type 0} → Option Refusal → A → Refusal ⊎ A
+answered none a = inr a
+answered (some r) a = inl r
+
+-- a buffer after a call: as it was, where the call refuses
+unfoldable pub unlessRefused : Option Refusal → List ℕ → List ℕ → List ℕ
+unlessRefused none old new = new
+unlessRefused (some r) old new = old
+
+-- ---- encoding: it answers a refusal or none
+
+-- the codeword buffer holds the codeword that carries the message
+unfoldable pub encodeBuffer : Code → List ℕ → List ℕ → List ℕ
+unfolding unlessRefused
+encodeBuffer c message codeword = unlessRefused (encodeRefusal c message codeword) codeword (encoded c message)
+
+-- ---- the hard stage
+
+-- none where the word is lost, and otherwise the number of flips
+unfoldable pub hardAnswer : Code → List ℕ → List ℕ → Refusal ⊎ Option ℕ
+unfolding answered
+hardAnswer c bits codeword = answered (hardRefusal c bits codeword) (Option·map (λ (r : Repair). r .flips) (hardStage c bits))
+
+-- the codeword buffer holds the codeword, unless the word is lost
+unfoldable pub hardBuffer : Code → List ℕ → List ℕ → List ℕ
+unfolding unlessRefused
+hardBuffer c bits codeword =
+    unlessRefused (hardRefusal c bits codeword) codeword (Option·getD (Option·map (λ (r : Repair). r .word) (hardStage c bits)) codeword)
