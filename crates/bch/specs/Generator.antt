@@ -7,17 +7,20 @@ use lib.Bits.{bitXor}
 use lib.ListN.{getD}
 use Rattle.galois.specs.Field.{times, mul}
 
--- the generator of m and t, its coefficients as binary digits, in octal as tables print them: a row for each m from 5, in it
--- t from 1 to 3.  (The rows of m = 9 and 10 go beyond document 01; the laws hold for them too.)
-unfoldable pub generator : ℕ → ℕ → ℕ
-generator m t =
-    getD (getD ((0o45 ∷ 0o3551 ∷ 0o107657 ∷ [])
+-- the generators, their coefficients as binary digits, in octal as tables print them: a row for each m from 5, in it t from
+-- 1 to 3.  (The rows of m = 9 and 10 go beyond document 01; the laws hold for them too.)
+abbrev pub generators : List (List ℕ)
+generators = (0o45 ∷ 0o3551 ∷ 0o107657 ∷ [])
     ∷ (0o103 ∷ 0o12471 ∷ 0o1701317 ∷ [])
     ∷ (0o211 ∷ 0o41567 ∷ 0o11554743 ∷ [])
     ∷ (0o435 ∷ 0o267543 ∷ 0o156720665 ∷ [])
     ∷ (0o1021 ∷ 0o1112711 ∷ 0o1530225571 ∷ [])
     ∷ (0o2011 ∷ 0o4014167 ∷ 0o12052210423 ∷ [])
-    ∷ []) (m - 5) []) (t - 1) 0
+    ∷ []
+
+-- the generator of m and t
+unfoldable pub generator : ℕ → ℕ → ℕ
+generator m t = getD (getD generators (m - 5) []) (t - 1) 0
 
 -- ---- the product rule
 

@@ -1,7 +1,7 @@
 -- Tables of a field of 2^m elements, m at most 10: powers of α, logarithms, and the three powers that a position adds to S1, S3
 -- and S5. How loops fill them, and what is looked up in them. A table is a list. Assumes nothing.
 use Prim.Native.Nat.{ℕ, zero, suc, _+_, _-_, _*_, _/_, _%_, _^_, _≤_, _<_}
-use native.Mathlib.Nat.{mul-suc, mul-le-mul}
+use native.Mathlib.Nat.{mul-suc, mul-le-mul, pow-succ'}
 use native.Mathlib.Numerals.{add-one}
 use native.Mathlib.Decide.{ℕ-discrete}
 use native.Mathlib.Omega.{arith}
@@ -77,6 +77,10 @@ size-least m h = pow-mono h
 pub size-most : (m : ℕ) → m ≤ 10 → 2 ^ m ≤ 1024
 size-most m h = pow-mono h
 
+pub even-size : (m : ℕ) → 1 ≤ m → 2 ^ m % 2 ≡ 0
+even-size zero h = absurd (omega arith)
+even-size (suc m) h = omega (arith, pow-succ' 2 m)
+
 -- α times a, by whether 2a is below 2^m
 pub double-small : (m a : ℕ) → 2 * a < 2 ^ m → 2 * a ≡ double m a
 unfolding double
@@ -97,6 +101,15 @@ table-more p f xs i j v q h e apart old =
     rw q
     (below-more (λ (k : ℕ). getD (set xs (p i) v) (p k) 0 ≡ f k) i (λ k hk. getD-set-other xs (p i) (p k) v 0 (apart k hk) ∙ old k hk)
     (getD-set-same xs (p i) v 0 h ∙ e))
+
+-- one place more of a table that is filled from its end, with the values of f
+pub from-more : (f : ℕ → ℕ) (xs : List ℕ) (n i v : ℕ) → i < length xs → v ≡ f i → ((k : ℕ) → i + 1 ≤ k → k < n → getD xs k 0 ≡ f k)
+    → (k : ℕ) → i ≤ k → k < n → getD (set xs i v) k 0 ≡ f k
+from-more f xs n i v h e old k l u = go (ℕ-discrete k i)
+  where
+    go : Dec (k ≡ i) → getD (set xs i v) k 0 ≡ f k
+    go (yes q) = rw q (getD-set-same xs i v 0 h ∙ e)
+    go (no d) = getD-set-other xs i k v 0 d ∙ old k (omega arith) u
 
 -- a table of elements stays one
 pub entries-more : (n : ℕ) (xs : List ℕ) (j v : ℕ) → v < n → ((i : ℕ) → getD xs i 0 < n) → (i : ℕ) → getD (set xs j v) i 0 < n
@@ -191,6 +204,14 @@ over-log : (m a b : ℕ) → a ≢ 0 → alpha m (log m a + (2 ^ m - 1 - log m b
 unfolding over
 over-log m zero b n = absurd (n refl)
 over-log m (suc a) b n = refl
+
+-- what is looked up is an element
+pub exponential-lt : (m : ℕ) (es : List ℕ) → 5 ≤ m → m ≤ 10 → Exponentials m es → (i : ℕ) → i < 2 * (2 ^ m - 1) → getD es i 0 < 1024
+exponential-lt m es l u h i w = rw (h i w) (element-lt m (alpha m i) u (alpha-lt m (primitive-5-10 m l u) i))
+
+-- a bound that 0 alone may reach
+pub below-period : (a l k : ℕ) → a ≢ 0 → l < k + (1 - a) → l < k
+below-period a l k n h = omega arith
 
 module _ (m : ℕ) (es ls ps : List ℕ) (f : FieldTables m es ls ps) where
   pub primitive-tables : Primitive m

@@ -1,8 +1,7 @@
 // Refusals (document 01, "Refusals, by their cause"): the form that all calls share, and the checks that more than one of
 // them makes.
 ghost use mathlib.Core.Path.{_≡_};
-ghost use Prim.Native.Nat.{ℕ, _*_, _≤_, _^_};
-ghost use lib.ListN.{length};
+ghost use Prim.Native.Nat.{_*_, _≤_, _^_};
 ghost use Rattle.bch.specs.Code.{code};
 ghost use Rattle.take_format.specs.Refusal.{firstOf, refused, unlessAtMost, bitsCheck};
 ghost use Rattle.take_format.specs.Refusal.{settings as Refusal·settings};

@@ -3,10 +3,10 @@
 use Prim.Native.Nat.{ℕ}
 use mathlib.Core.Logic.{_⊎_, inl, inr}
 use mathlib.Core.List.{List}
-use mathlib.Core.Option.{Option, none, some, Option·map, Option·getD}
+use mathlib.Core.Option.{Option, none, some}
 use Rattle.bch.specs.Code.{Code}
 use Rattle.bch.specs.Encode.{encoded}
-use Rattle.bch.specs.Hard.{Repair, hardStage}
+use Rattle.bch.specs.Hard.{hardFlips, hardWritten}
 use Rattle.take_format.specs.Refusal.{Refusal, encodeRefusal, hardRefusal}
 
 -- a call's answer: the refusal, where there is one
@@ -19,22 +19,20 @@ unfoldable pub unlessRefused : Option Refusal → List ℕ → List ℕ → List
 unlessRefused none old new = new
 unlessRefused (some r) old new = old
 
--- ---- encoding: it answers a refusal or none
+-- ---- encoding answers a refusal or none
 
--- the codeword buffer holds the codeword that carries the message
+-- the codeword buffer then holds the codeword that carries the message
 unfoldable pub encodeBuffer : Code → List ℕ → List ℕ → List ℕ
 unfolding unlessRefused
 encodeBuffer c message codeword = unlessRefused (encodeRefusal c message codeword) codeword (encoded c message)
 
--- ---- the hard stage
+-- ---- the hard stage answers a refusal, or none for a word that is lost, or the number of flips
 
--- none where the word is lost, and otherwise the number of flips
 unfoldable pub hardAnswer : Code → List ℕ → List ℕ → Refusal ⊎ Option ℕ
 unfolding answered
-hardAnswer c bits codeword = answered (hardRefusal c bits codeword) (Option·map (λ (r : Repair). r .flips) (hardStage c bits))
+hardAnswer c bits codeword = answered (hardRefusal c bits codeword) (hardFlips c bits)
 
--- the codeword buffer holds the codeword, unless the word is lost
+-- the codeword buffer then holds the codeword
 unfoldable pub hardBuffer : Code → List ℕ → List ℕ → List ℕ
 unfolding unlessRefused
-hardBuffer c bits codeword =
-    unlessRefused (hardRefusal c bits codeword) codeword (Option·getD (Option·map (λ (r : Repair). r .word) (hardStage c bits)) codeword)
+hardBuffer c bits codeword = unlessRefused (hardRefusal c bits codeword) codeword (hardWritten c bits codeword)

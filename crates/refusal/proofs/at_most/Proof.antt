@@ -5,27 +5,19 @@ use Rattle.take_format.proofs.RefusalLaws.{all-most}
 use Rattle.refusal.specs.Checked.{checked}
 use Rattle.refusal.proofs.at_most.Statement.{statement}
 use Rattle.refusal.proofs.at_most.Tie as tie
-use Rattle.refusal.proofs.at_most.Reads as reads
-use Rattle.refusal.proofs.at_most.Lts as lts
-use Rattle.refusal.proofs.first_above.Reads as first-above-reads
-use Rattle.refusal.proofs.highest.Reads as highest-reads
 
--- src/lib.rt:108:8
 highest-requires : tie.Need-highest-requires
 highest-requires c κs = search needs
 
--- src/lib.rt:109:9
 returns : tie.Need-returns
 unfolding checked
 returns c =
     let a = c .before .before .before .args in
     all-most (a .number) (a .most) 0 (a .bytes .now) (λ i h. omega (arith, c .before .highest .ensures i h))
 
--- src/lib.rt:111:5
 first-above-requires : tie.Need-first-above-requires
 first-above-requires c κs = search needs
 
--- src/lib.rt:105:1
 returns-2 : tie.Need-returns-2
 returns-2 c = search needs
 

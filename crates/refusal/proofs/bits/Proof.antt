@@ -7,38 +7,28 @@ use Rattle.take_format.specs.Refusal.{bitBytes, bitsCheck}
 use Rattle.take_format.proofs.RefusalLaws.{first-last}
 use Rattle.refusal.proofs.bits.Statement.{statement}
 use Rattle.refusal.proofs.bits.Tie as tie
-use Rattle.refusal.proofs.bits.Reads as reads
-use Rattle.refusal.proofs.bits.Lts as lts
-use Rattle.refusal.proofs.at_most.Reads as at-most-reads
-use Rattle.refusal.proofs.refuse.Reads as refuse-reads
 
--- src/lib.rt:119:9
 refuse-requires : tie.Need-refuse-requires
 refuse-requires c κs = search needs
 
--- src/lib.rt:119:9
 returns : tie.Need-returns
 unfolding bitsCheck
 returns c =
     let a = c .before .before .before .args in
     c .refuse .ensures ∙ sym (simp (ne-eqb (length (a .bits .now)) (a .k) (c .before .if1 .taken)))
 
--- src/lib.rt:122:9
 refuse-requires-2 : tie.Need-refuse-requires-2
 refuse-requires-2 c κs = search needs
 
--- src/lib.rt:122:9
 returns-2 : tie.Need-returns-2
 unfolding bitsCheck
 returns-2 c =
     let a = c .before .before .before .before .args in
     c .refuse2 .ensures ∙ sym (simp (eq-eqb (length (a .bits .now)) (a .k) (c .before .before .if1 .left), ne-eqb (a .room) (a .n) (c .before .if2 .taken)))
 
--- src/lib.rt:124:5
 at-most-requires : tie.Need-at-most-requires
 at-most-requires c κs = search needs
 
--- src/lib.rt:115:1
 returns-3 : tie.Need-returns-3
 unfolding bitsCheck
 returns-3 c =

@@ -9,9 +9,6 @@ use Rattle.take_format.proofs.RefusalLaws.{above-here, above-later, above-none}
 use Rattle.refusal.specs.Checked.{checked}
 use Rattle.refusal.proofs.first_above.Statement.{statement}
 use Rattle.refusal.proofs.first_above.Tie as tie
-use Rattle.refusal.proofs.first_above.Reads as reads
-use Rattle.refusal.proofs.first_above.Lts as lts
-use Rattle.refusal.proofs.refuse.Reads as refuse-reads
 
 abbrev Inv-loop : tie.InvT-loop
 Inv-loop number most bytes i₀ i = (i ≤ length bytes) × (unlessAtMost number most i (drop i bytes) ≡ unlessAtMost number most 0 bytes)
@@ -19,41 +16,33 @@ Inv-loop number most bytes i₀ i = (i ≤ length bytes) × (unlessAtMost number
 abbrev μ-loop : tie.MeasureT-loop
 μ-loop number most bytes i₀ i = length bytes - i
 
--- src/lib.rt:95:5
 loop-holds : tie.Need-loop-holds Inv-loop μ-loop
 loop-holds c = (omega arith, refl)
 
--- src/lib.rt:96:19
 shared-slice-read-if1 : tie.Need-shared-slice-read-if1 Inv-loop μ-loop
 shared-slice-read-if1 c = search needs
 
--- src/lib.rt:97:13
 refuse-requires : tie.Need-refuse-requires Inv-loop μ-loop
 refuse-requires c κs = search needs
 
--- src/lib.rt:97:13
 returns : tie.Need-returns Inv-loop μ-loop
 returns c =
     let a = c .before .before .before .before .before .before .args in
     let l = c .before .before .before .before .loop in
     c .refuse .ensures ∙ above-here (a .number) (a .most) (l .i) (a .bytes .now) (omega arith) (c .before .if1 .taken) ∙ l .inv .1
 
--- src/lib.rt:99:9
 add-i : tie.Need-add-i Inv-loop μ-loop
 add-i c = search needs
 
--- src/lib.rt:95:5
 loop-less : tie.Need-loop-less Inv-loop μ-loop
 loop-less c = search needs
 
--- src/lib.rt:95:5
 loop-again : tie.Need-loop-again Inv-loop μ-loop
 loop-again c =
     let a = c .before .before .before .before .before .args in
     let l = c .before .before .before .loop in
     (omega arith, sym (above-later (a .number) (a .most) (l .i) (a .bytes .now) (omega arith) (c .if1 .left)) ∙ l .inv .1)
 
--- src/lib.rt:91:1
 returns-2 : tie.Need-returns-2 Inv-loop μ-loop
 unfolding checked
 returns-2 c =

@@ -6,9 +6,6 @@ use borrow.Author.Count.{below-none, below-more}
 use lib.ListN.{length, getD}
 use Rattle.refusal.proofs.highest.Statement.{statement}
 use Rattle.refusal.proofs.highest.Tie as tie
-use Rattle.refusal.proofs.highest.Reads as reads
-use Rattle.refusal.proofs.highest.Lts as lts
-use Rattle.refusal.proofs.larger.Reads as larger-reads
 
 abbrev Inv-loop : tie.InvT-loop
 Inv-loop bytes most₀ i₀ most i = (i ≤ length bytes) × ((k : ℕ) → k < i → getD bytes k 0 ≤ most)
@@ -16,27 +13,21 @@ Inv-loop bytes most₀ i₀ most i = (i ≤ length bytes) × ((k : ℕ) → k < 
 abbrev μ-loop : tie.MeasureT-loop
 μ-loop bytes most₀ i₀ most i = length bytes - i
 
--- src/lib.rt:83:5
 loop-holds : tie.Need-loop-holds Inv-loop μ-loop
 loop-holds c = (omega arith, below-none _)
 
--- src/lib.rt:84:29
 shared-slice-read-larger : tie.Need-shared-slice-read-larger Inv-loop μ-loop
 shared-slice-read-larger c = search needs
 
--- src/lib.rt:84:9
 larger-requires : tie.Need-larger-requires Inv-loop μ-loop
 larger-requires c κs = search needs
 
--- src/lib.rt:85:9
 add-i : tie.Need-add-i Inv-loop μ-loop
 add-i c = search needs
 
--- src/lib.rt:83:5
 loop-less : tie.Need-loop-less Inv-loop μ-loop
 loop-less c = search needs
 
--- src/lib.rt:83:5
 loop-again : tie.Need-loop-again Inv-loop μ-loop
 loop-again c =
     let l = c .before .before .before .loop in
@@ -45,7 +36,6 @@ loop-again c =
       below-more (λ (k : ℕ). getD xs k 0 ≤ c .larger .result) (l .i) (λ k h. omega (arith, l .inv .1 k h)) (c .larger .ensures .1),
     )
 
--- src/lib.rt:78:1
 returns : tie.Need-returns Inv-loop μ-loop
 returns c =
     let l = c .before .loop in

@@ -3,10 +3,7 @@ use mathlib.Core.Path.{refl}
 use Rattle.refusal.specs.Checked.{checked}
 use Rattle.refusal.proofs.refuse.Statement.{statement}
 use Rattle.refusal.proofs.refuse.Tie as tie
-use Rattle.refusal.proofs.refuse.Reads as reads
-use Rattle.refusal.proofs.refuse.Lts as lts
 
--- src/lib.rt:24:1
 returns : tie.Need-returns
 unfolding checked
 returns c = refl

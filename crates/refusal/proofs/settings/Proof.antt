@@ -9,89 +9,70 @@ use Rattle.take_format.specs.Refusal.{unless, firstOf, settings as Refusal·set
 use Rattle.refusal.specs.Checked.{checked}
 use Rattle.refusal.proofs.settings.Statement.{statement}
 use Rattle.refusal.proofs.settings.Tie as tie
-use Rattle.refusal.proofs.settings.Reads as reads
-use Rattle.refusal.proofs.settings.Lts as lts
-use Rattle.refusal.proofs.refuse.Reads as refuse-reads
-use Rattle.refusal.proofs.size_of.Reads as size-of-reads
 
--- src/lib.rt:51:9
 refuse-requires : tie.Need-refuse-requires
 refuse-requires c κs = search needs
 
--- src/lib.rt:51:9
 returns : tie.Need-returns
 unfolding checked Refusal·settings firstOf unless
 returns c =
     let a = c .before .before .args in
     c .refuse .ensures ∙ sym (simp (lt-leb 5 (a .m) (omega arith)))
 
--- src/lib.rt:54:9
 refuse-requires-2 : tie.Need-refuse-requires-2
 refuse-requires-2 c κs = search needs
 
--- src/lib.rt:54:9
 returns-2 : tie.Need-returns-2
 unfolding checked Refusal·settings firstOf unless
 returns-2 c =
     let a = c .before .before .before .args in
     c .refuse2 .ensures ∙ sym (simp (le-leb 5 (a .m) (omega arith), lt-leb (a .m) 8 (omega arith)))
 
--- src/lib.rt:57:9
 refuse-requires-3 : tie.Need-refuse-requires-3
 refuse-requires-3 c κs = search needs
 
--- src/lib.rt:57:9
 returns-3 : tie.Need-returns-3
 unfolding checked Refusal·settings firstOf unless
 returns-3 c =
     let a = c .before .before .before .before .args in
     c .refuse3 .ensures ∙ sym (simp (le-leb 5 (a .m) (omega arith), le-leb (a .m) 8 (omega arith), lt-leb 1 (a .t) (omega arith)))
 
--- src/lib.rt:60:9
 refuse-requires-4 : tie.Need-refuse-requires-4
 refuse-requires-4 c κs = search needs
 
--- src/lib.rt:60:9
 returns-4 : tie.Need-returns-4
 unfolding checked Refusal·settings firstOf unless
 returns-4 c =
     let a = c .before .before .before .before .before .args in
     c .refuse4 .ensures ∙ sym (simp (le-leb 5 (a .m) (omega arith), le-leb (a .m) 8 (omega arith), le-leb 1 (a .t) (omega arith), lt-leb (a .t) 3 (omega arith)))
 
--- src/lib.rt:62:13
 mul-if5 : tie.Need-mul-if5
 mul-if5 c =
     let a = c .before .before .before .before .args in
     let h : a .m * a .t ≤ 8 * 3 = mul-le-mul {n₂ = 8} {m₂ = 3} (omega arith) (omega arith) in
     omega arith
 
--- src/lib.rt:63:9
 refuse-requires-5 : tie.Need-refuse-requires-5
 refuse-requires-5 c κs = search needs
 
--- src/lib.rt:63:9
 returns-5 : tie.Need-returns-5
 unfolding checked Refusal·settings firstOf unless
 returns-5 c =
     let a = c .before .before .before .before .before .before .args in
     c .refuse5 .ensures ∙ sym (simp (le-leb 5 (a .m) (omega arith), le-leb (a .m) 8 (omega arith), le-leb 1 (a .t) (omega arith), le-leb (a .t) 3 (omega arith), lt-leb (a .m * a .t + 1) (a .n) (omega arith)))
 
--- src/lib.rt:65:8
 size-of-requires : tie.Need-size-of-requires
 size-of-requires c κs = search needs
 
--- src/lib.rt:66:9
 refuse-requires-6 : tie.Need-refuse-requires-6
 refuse-requires-6 c κs = search needs
 
--- src/lib.rt:66:9
 returns-6 : tie.Need-returns-6
 unfolding checked Refusal·settings firstOf unless
 returns-6 c =
     let a = c .before .before .before .before .before .before .before .before .args in
     c .refuse6 .ensures ∙ sym (simp (le-leb 5 (a .m) (omega arith), le-leb (a .m) 8 (omega arith), le-leb 1 (a .t) (omega arith), le-leb (a .t) 3 (omega arith), le-leb (a .m * a .t + 1) (a .n) (omega arith), lt-leb (a .n) (2 ^ a .m - 1) (omega arith)))
 
--- src/lib.rt:47:1
 returns-7 : tie.Need-returns-7
 unfolding checked Refusal·settings firstOf unless
 returns-7 c =

@@ -4,22 +4,16 @@ use native.Mathlib.Omega.{arith}
 use mathlib.Core.Path.{_≡_, ap, sym}
 use Rattle.refusal.proofs.size_of.Statement.{statement}
 use Rattle.refusal.proofs.size_of.Tie as tie
-use Rattle.refusal.proofs.size_of.Reads as reads
-use Rattle.refusal.proofs.size_of.Lts as lts
 
--- src/lib.rt:34:1
 returns : tie.Need-returns
 returns c = sym (ap (λ (k : ℕ). 2 ^ k) (c .match .keys1))
 
--- src/lib.rt:34:1
 returns-2 : tie.Need-returns-2
 returns-2 c = sym (ap (λ (k : ℕ). 2 ^ k) (c .match .keys2))
 
--- src/lib.rt:34:1
 returns-3 : tie.Need-returns-3
 returns-3 c = sym (ap (λ (k : ℕ). 2 ^ k) (c .match .keys3))
 
--- src/lib.rt:34:1
 returns-4 : tie.Need-returns-4
 returns-4 c =
     let e : c .before .args .m ≡ 8 = omega arith in

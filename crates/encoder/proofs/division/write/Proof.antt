@@ -1,0 +1,63 @@
+-- The register and then the message are written, as the encoded message has them. Assumes nothing.
+use Prim.Native.Nat.{ℕ, _*_}
+use native.Mathlib.Nat.{mul-le-mul}
+use native.Mathlib.Omega.{arith}
+use mathlib.Core.Path.{ap, _∙_}
+use mathlib.Core.List.{List, _++_}
+use borrow.Author.Needs.{needs}
+use lib.ListN.{take, drop}
+use Rattle.bch.specs.Code.{code}
+use Rattle.bch.proofs.Settings.{lawful}
+use Rattle.bch.proofs.GeneratorLaws.{suits-all}
+use Rattle.bch.proofs.EncodeLaws.{encoded-written}
+use Rattle.encoder.proofs.division.write.Statement.{statement}
+use Rattle.encoder.proofs.division.write.Tie as tie
+
+mul-r : tie.Need-mul-r
+mul-r c = search needs
+
+generator-of-requires : tie.Need-generator-of-requires
+generator-of-requires c κs = search needs
+
+parity-requires : tie.Need-parity-requires
+parity-requires c κs =
+    let s = c .before .before .before in
+    let a = s .args in
+    let ok = s .pre .isCode in (
+      omega (arith, mul-le-mul (ok .m-most) (ok .t-most)),
+      rw (c .generator-of .ensures) (suits-all (a .m) (a .t) (ok .m-least) (omega arith) (ok .t-least) (ok .t-most) .degree),
+      s .pre .are-bits,
+    )
+
+write-parity-requires : tie.Need-write-parity-requires
+write-parity-requires c κs = search needs
+
+write-message-requires : tie.Need-write-message-requires
+write-message-requires c κs = search needs
+
+same-length : tie.Need-same-length
+same-length c = search needs
+
+returns : tie.Need-returns
+returns c =
+    let s = c .before .before .before .before .before .before .before .before .before .before .before .before in
+    let a = s .args in
+    let ok = s .pre .isCode in
+    let rest = drop (a .m * a .t) (a .codeword .now) in
+    c .before .before .write-message .ensures
+    ∙ ap (λ (xs : List ℕ). take (a .m * a .t) xs ++ a .message .now) (c .before .before .before .before .before .before .write-parity .ensures)
+    ∙ encoded-written (code (a .m) (a .t) (a .n)) (lawful _ ok) (omega arith) (a .message .now) rest _ _ (s .pre .are-bits) (s .pre .long)
+    (c .before .before .before .before .before .before .before .before .before .generator-of .ensures)
+    (c .before .before .before .before .before .before .before .before .parity .ensures)
+
+pub write-spec : {M : Type 1} → statement M
+write-spec =
+    tie.close
+    (tie.spec
+    mul-r
+    generator-of-requires
+    parity-requires
+    write-parity-requires
+    write-message-requires
+    same-length
+    returns)

@@ -1,0 +1,38 @@
+// The encoder (document 01, "The codes"): the codeword that carries a message, or a refusal.
+ghost use mathlib.Core.Path.{_≡_};
+ghost use Rattle.bch.specs.Code.{code};
+ghost use Rattle.take_format.specs.Refusal.{encodeRefusal};
+ghost use Rattle.take_format.specs.Calls.{encodeBuffer};
+ghost use Rattle.encoder.specs.Outcome.{encodedOf};
+use refusal::Check;
+use refusal::Refusal;
+
+mod division;
+
+// The encoder's answer: a refusal, or that the codeword is written.
+pub enum Encoded {
+    Refused(Refusal),
+    Written,
+}
+
+// Writes the codeword that carries a message of n - m t bits: parity at positions 0 to m t - 1, the message behind it.
+pub fn encode(m: usize, t: usize, n: usize, message: &[u8], codeword: &mut [u8]) -> Encoded
+    ensures { λ r. ⌜ encodedOf r ≡ encodeRefusal (code m t n) (now (message .entry)) (now (codeword .entry)) ⌝ }
+    ensures { λ _. ⌜ now (codeword .exit) ≡ encodeBuffer (code m t n) (now (message .entry)) (now (codeword .entry)) ⌝ }
+{
+    match refusal::settings(m, t, n) {
+        Check::Refused(r) => {
+            return Encoded::Refused(r);
+        }
+        Check::Passed => {}
+    }
+    let k = n - m * t;
+    match refusal::bits(k, n, message, codeword.len()) {
+        Check::Refused(r) => {
+            return Encoded::Refused(r);
+        }
+        Check::Passed => {}
+    }
+    division::write(m, t, n, message, codeword);
+    Encoded::Written
+}

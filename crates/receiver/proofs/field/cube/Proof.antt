@@ -1,0 +1,39 @@
+-- A cube stands at the logarithm, in the table of the powers. Assumes nothing.
+use native.Mathlib.Omega.{arith}
+use mathlib.Core.Path.{_≡_, _∙_}
+use borrow.Author.Needs.{needs}
+use Rattle.bch.specs.Locator.{cubed}
+use Rattle.bch.proofs.PowerTables.{cube-zero, cube-is, cubed-lt}
+use Rattle.receiver.proofs.field.cube.Statement.{statement}
+use Rattle.receiver.proofs.field.cube.Tie as tie
+
+returns : tie.Need-returns
+returns c =
+    let s = c .before .before .before .before in
+    (cube-zero _ _ _ _ (s .pre .0) (s .args .a) (c .if1 .taken), search needs)
+
+log-of-requires : tie.Need-log-of-requires
+log-of-requires c κs = search needs
+
+mul-index : tie.Need-mul-index
+mul-index c = search needs
+
+shared-slice-read-index : tie.Need-shared-slice-read-index
+shared-slice-read-index c = search needs
+
+index-requires : tie.Need-index-requires
+index-requires c κs = search needs
+
+returns-2 : tie.Need-returns-2
+returns-2 c =
+    let s = c .before .before .before .before .before .before .before in
+    let a = s .args .a in
+    let l = c .before .before .log-of in
+    let e : c .index .result ≡ cubed (s .args .m) a =
+    c .index .ensures ∙ cube-is _ _ _ _ (s .pre .0) a (l .result) (c .before .before .before .if1 .left) (s .pre .1) (l .ensures .0) (omega arith) in
+    (e, rw e (cubed-lt _ _ _ _ (s .pre .0) a (s .pre .1)))
+
+pub cube-spec : {M : Type 1} → statement M
+cube-spec =
+    tie.close
+    (tie.spec returns log-of-requires mul-index shared-slice-read-index index-requires returns-2)

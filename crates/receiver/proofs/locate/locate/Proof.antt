@@ -1,0 +1,53 @@
+-- The positions of the elements that the syndromes give. Assumes nothing.
+use Prim.Native.Nat.{ℕ, _%_, _/_}
+use mathlib.Core.Path.{ap, _∙_, ap₂}
+use mathlib.Core.List.{List}
+use borrow.Author.Needs.{needs}
+use Rattle.bch.proofs.Elements.{elements as Elements·elements}
+use Rattle.bch.proofs.KappaDecoder.{kappas}
+use Rattle.bch.proofs.RootTables.{at}
+use Rattle.bch.proofs.ClosedForm.{located}
+use Rattle.bch.proofs.Decoder.{attempted}
+use Rattle.receiver.proofs.locate.locate.Statement.{statement}
+use Rattle.receiver.proofs.locate.locate.Tie as tie
+
+index-requires : tie.Need-index-requires
+index-requires c κs = search needs
+
+index-requires-2 : tie.Need-index-requires-2
+index-requires-2 c κs = search needs
+
+index-requires-3 : tie.Need-index-requires-3
+index-requires-3 c κs = search needs
+
+elements-of-requires : tie.Need-elements-of-requires
+elements-of-requires c κs =
+    let s = c .before .before .before .before .before .before .before .before in
+    let p = s .pre .1 .1 in
+    (s .pre .0, (s .pre .1 .0, (p .0, p .1, p .2, rw (c .before .before .index .ensures) (p .4), rw (c .before .index2 .ensures) (p .5), rw (c .index3 .ensures) (p .6))))
+
+place-requires : tie.Need-place-requires
+place-requires c κs = search needs
+
+returns : tie.Need-returns
+unfolding located
+returns c =
+    let a = c .before .before .before .before .before .before .before .before .before .before .args in
+    let E : ℕ → ℕ → ℕ → List ℕ =
+    Elements·elements (a .m) (at (a .first .now)) (kappas (a .m) (at (a .first .now)) (at (a .second .now))) (a .t) in
+    let e =
+    c .before .elements-of .ensures .are
+    ∙ ap₂ (λ (x y : ℕ). E x y (c .before .before .index3 .result)) (c .before .before .before .before .index .ensures) (c .before .before .before .index2 .ensures)
+    ∙ ap (E (a .s % 1024) (a .s / 1024 % 1024)) (c .before .before .index3 .ensures) in
+    (c .place .ensures .0 ∙ ap (attempted (a .m) (a .t) (a .n) (a .s % 1024) (a .s / 1024 % 1024) (a .s / 1048576)) e, c .place .ensures .1)
+
+pub locate-spec : {M : Type 1} → statement M
+locate-spec =
+    tie.close
+    (tie.spec
+    index-requires
+    index-requires-2
+    index-requires-3
+    elements-of-requires
+    place-requires
+    returns)

@@ -1,0 +1,149 @@
+-- What is placed and what is left to place are the positions. Assumes nothing.
+use Prim.Native.Nat.{ℕ, _-_, _≤_, _<_}
+use native.Mathlib.Omega.{arith}
+use mathlib.Core.Path.{_≡_, sym, _∙_}
+use mathlib.Core.Logic.{_≢_}
+use mathlib.Core.List.{[]}
+use borrow.Author.Needs.{needs}
+use lib.ListN.{length, getD, take, drop, length-set}
+use Rattle.galois.proofs.FieldTables.{primitive-tables}
+use Rattle.bch.proofs.RootTables.{at}
+use Rattle.bch.proofs.Placing.{lowerPart, positions, rest, rest-all, rest-right, rest-wrong, placed-stop, placed-more, placed-end, places-more}
+use Rattle.receiver.proofs.locate.place.Statement.{statement}
+use Rattle.receiver.proofs.locate.place.Tie as tie
+
+abbrev Inv-loop : tie.InvT-loop
+Inv-loop m t n exps logs powers s xs count at₀ acc₀ i₀ at acc i =
+    (i ≤ count) × (length at ≡ 3) × (rest m t n s acc (take i at) (drop i (take count xs)) ≡ rest m t n s 0 [] (take count xs))
+    × ((k : ℕ) → k < i → getD at k 0 < n)
+
+abbrev μ-loop : tie.MeasureT-loop
+μ-loop m t n exps logs powers s xs count at₀ acc₀ i₀ at acc i = count - i
+
+loop-holds : tie.Need-loop-holds Inv-loop μ-loop
+loop-holds c = search needs
+
+mul-log-of : tie.Need-mul-log-of Inv-loop μ-loop
+mul-log-of c = search needs
+
+array-read-log-of : tie.Need-array-read-log-of Inv-loop μ-loop
+array-read-log-of c = search needs
+
+log-of-requires : tie.Need-log-of-requires Inv-loop μ-loop
+log-of-requires c κs =
+    let s = c .before .before .before .before .before .before in
+    (s .pre .0, s .pre .1 .5 _)
+
+lost-requires : tie.Need-lost-requires Inv-loop μ-loop
+lost-requires c κs = search needs
+
+returns : tie.Need-returns Inv-loop μ-loop
+unfolding positions
+returns c =
+    let s = c .before .before .before .before .before .before .before .before .before in
+    let a = s .args in
+    let f = s .pre .0 in
+    let l = c .before .before .before .before .loop in
+    let g = primitive-tables _ _ _ _ f in (
+      simp (c .lost .ensures .0)
+          (placed-stop (a .m) g (f .most) (a .t) (a .n) (a .s) (l .acc) (a .e .count) (l .i) (a .e .at) (l .at) (omega arith) _ (omega arith) (c .before .before .log-of .ensures .0) (c .before .if1 .taken) (l .inv .2)
+          ∙ rest-all (a .m) g (f .most) (a .t) (a .n) (a .s) (take (a .e .count) (a .e .at)) (s .pre .1 .0) (s .pre .1 .1)),
+      record { few = omega arith; long = c .lost .ensures .2; inside = λ k h. absurd (omega (arith, c .lost .ensures .1)) },
+    )
+
+mul-at : tie.Need-mul-at Inv-loop μ-loop
+mul-at c = search needs
+
+array-write-at : tie.Need-array-write-at Inv-loop μ-loop
+array-write-at c = search needs
+
+mul-acc : tie.Need-mul-acc Inv-loop μ-loop
+mul-acc c = search needs
+
+shared-slice-read-acc : tie.Need-shared-slice-read-acc Inv-loop μ-loop
+shared-slice-read-acc c = search needs
+
+add-i : tie.Need-add-i Inv-loop μ-loop
+add-i c = search needs
+
+loop-less : tie.Need-loop-less Inv-loop μ-loop
+loop-less c = search needs
+
+loop-again : tie.Need-loop-again Inv-loop μ-loop
+loop-again c =
+    let s = c .before .before .before .before .before .before .before .before .before in
+    let a = s .args in
+    let f = s .pre .0 in
+    let l = c .before .before .before .before .loop in
+    let g = primitive-tables _ _ _ _ f in
+    let p = c .before .before .log-of .result in (
+      omega arith,
+      simp length-set (l .inv .1),
+      placed-more (a .m) g (f .most) (a .t) (a .n) (a .s) (l .acc) (a .e .count) (l .i) (a .e .at) (l .at) (omega arith) p _ (omega arith) (omega arith) (c .before .before .log-of .ensures .0) (c .before .if1 .left) (f .powers p (omega arith)) (l .inv .2),
+      places-more (a .n) (l .i) p (l .at) (omega arith) (c .before .if1 .left) (l .inv .3),
+    )
+
+part-requires : tie.Need-part-requires Inv-loop μ-loop
+part-requires c κs = search needs
+
+part-requires-2 : tie.Need-part-requires-2 Inv-loop μ-loop
+part-requires-2 c κs = search needs
+
+lost-requires-2 : tie.Need-lost-requires-2 Inv-loop μ-loop
+lost-requires-2 c κs = search needs
+
+returns-2 : tie.Need-returns-2 Inv-loop μ-loop
+unfolding positions
+returns-2 c =
+    let s = c .before .before .before .before .before .before .before .before .before .before in
+    let a = s .args in
+    let f = s .pre .0 in
+    let l = c .before .before .before .before .before .loop in
+    let g = primitive-tables _ _ _ _ f in
+    let end = placed-end (a .m) g (f .most) (a .t) (a .n) (a .s) (l .acc) (a .e .count) (l .i) (a .e .at) (l .at) (omega arith) (omega arith) (l .inv .2) in
+    let wrong : lowerPart (a .t) (l .acc) ≢ lowerPart (a .t) (a .s) = λ e. c .before .if2 .taken (c .before .before .before .part .ensures ∙ e ∙ sym (c .before .before .part2 .ensures)) in (
+      simp (c .lost2 .ensures .0)
+          (sym (rest-wrong (a .m) (a .t) (a .n) (a .s) (l .acc) (take (a .e .count) (l .at)) wrong) ∙ end
+          ∙ rest-all (a .m) g (f .most) (a .t) (a .n) (a .s) (take (a .e .count) (a .e .at)) (s .pre .1 .0) (s .pre .1 .1)),
+      record { few = omega arith; long = c .lost2 .ensures .2; inside = λ k h. absurd (omega (arith, c .lost2 .ensures .1)) },
+    )
+
+returns-3 : tie.Need-returns-3 Inv-loop μ-loop
+unfolding positions
+returns-3 c =
+    let s = c .before .before .before .before .before .before .before .before .before in
+    let a = s .args in
+    let f = s .pre .0 in
+    let l = c .before .before .before .before .loop in
+    let g = primitive-tables _ _ _ _ f in
+    let end = placed-end (a .m) g (f .most) (a .t) (a .n) (a .s) (l .acc) (a .e .count) (l .i) (a .e .at) (l .at) (omega arith) (omega arith) (l .inv .2) in
+    let right : lowerPart (a .t) (l .acc) ≡ lowerPart (a .t) (a .s) = sym (c .before .before .part .ensures) ∙ c .if2 .left ∙ c .before .part2 .ensures in (
+      sym (rest-right (a .m) (a .t) (a .n) (a .s) (l .acc) (take (a .e .count) (l .at)) right) ∙ end
+          ∙ rest-all (a .m) g (f .most) (a .t) (a .n) (a .s) (take (a .e .count) (a .e .at)) (s .pre .1 .0) (s .pre .1 .1),
+      record { few = omega arith; long = l .inv .1; inside = λ k h. l .inv .3 k (omega arith) },
+    )
+
+pub place-spec : {M : Type 1} → statement M
+place-spec =
+    tie.close
+    (tie.spec
+    Inv-loop
+    μ-loop
+    loop-holds
+    mul-log-of
+    array-read-log-of
+    log-of-requires
+    lost-requires
+    returns
+    mul-at
+    array-write-at
+    mul-acc
+    shared-slice-read-acc
+    add-i
+    loop-less
+    loop-again
+    part-requires
+    part-requires-2
+    lost-requires-2
+    returns-2
+    returns-3)

@@ -1,0 +1,83 @@
+-- What is located for the syndromes is the hard stage's answer. Assumes nothing.
+use Prim.Native.Nat.{_≤_}
+use native.Mathlib.Omega.{arith}
+use mathlib.Core.Path.{ap, _∙_}
+use mathlib.Core.Logic.{inr}
+use borrow.Author.Needs.{needs}
+use borrow.Author.Tests.{not-true, not-false}
+use lib.ListN.{take, length}
+use Rattle.bch.specs.Words.{flippedAt}
+use Rattle.bch.specs.Code.{code}
+use Rattle.bch.proofs.HardAnswers.{parts-lt, lost-flips, lost-written, found-flips, found-written}
+use Rattle.receiver.specs.Answer.{hardOf}
+use Rattle.receiver.proofs.repair.decode_with.Statement.{statement}
+use Rattle.receiver.proofs.repair.decode_with.Tie as tie
+
+syndromes-requires : tie.Need-syndromes-requires
+syndromes-requires c κs =
+    let s = c .before .before .before .before .before .before .before in
+    let p = s .pre .1 .1 in
+    (s .pre .0, (omega (arith, p .0 .0 .n-most, p .1 .0), p .1 .2))
+
+locate-requires : tie.Need-locate-requires
+locate-requires c κs =
+    let s = c .before .before .before .before .before .before .before .before in
+    let a = s .args in
+    let p = s .pre .1 .1 in
+    let l = p .0 .0 in
+    let parts = parts-lt (code (a .m) (a .t) (a .n)) (p .0 .0) (a .first .now) (a .second .now) (s .pre .1 .0) (a .bits .now) (p .1 .0) (p .1 .2) _ (c .syndromes .ensures) in
+    (s .pre .0, (s .pre .1 .0, (p .0 .1, l .t-least, l .t-most, l .n-most, parts .0, parts .1, parts .2)))
+
+returns : tie.Need-returns
+unfolding hardOf
+returns c =
+    let s = c .before .before .before .before .before .before .before .before .before .before in
+    let a = s .args in
+    let p = s .pre .1 .1 in
+    let f = c .before .locate in
+    let lost = not-true _ (c .if1 .taken) in (
+      ap inr (lost-flips (code (a .m) (a .t) (a .n)) (p .0 .0) (a .first .now) (a .second .now) (s .pre .1 .0) (a .bits .now) (p .1 .0) (p .1 .2) _ (c .before .before .syndromes .ensures) (f .result .found) (f .result .count) (f .result .at) (f .ensures .0) lost),
+      lost-written (code (a .m) (a .t) (a .n)) (p .0 .0) (a .first .now) (a .second .now) (s .pre .1 .0) (a .bits .now) (p .1 .0) (p .1 .2) _ (c .before .before .syndromes .ensures) (f .result .found) (f .result .count) (f .result .at) (f .ensures .0) lost (a .codeword .now),
+    )
+
+copy-requires : tie.Need-copy-requires
+copy-requires c κs = search needs
+
+flip-at-requires : tie.Need-flip-at-requires
+flip-at-requires c κs =
+    let s = c .before .before .before .before .before .before .before .before .before .before .before .before .before .before .before in
+    let p = s .pre .1 .1 in
+    let f = c .before .before .before .before .before .before .locate .ensures .1 in
+    let e = c .before .before .before .copy .ensures in
+    (rw e (p .1 .2), rw (e, p .1 .0) f)
+
+same-length : tie.Need-same-length
+same-length c = search needs
+
+returns-2 : tie.Need-returns-2
+unfolding hardOf
+returns-2 c =
+    let s = c .before .before .before .before .before .before .before .before .before .before .before .before .before .before .before .before .before .before in
+    let a = s .args in
+    let p = s .pre .1 .1 in
+    let y = c .before .before .before .before .before .before .before .before .before .before .syndromes .ensures in
+    let f = c .before .before .before .before .before .before .before .before .before .locate in
+    let r = f .result in
+    let found = not-false _ (c .before .before .before .before .before .before .before .before .if1 .left) in
+    let room : r .count ≤ length (r .at) = omega (arith, f .ensures .1 .few, f .ensures .1 .long) in (
+      ap inr (found-flips (code (a .m) (a .t) (a .n)) (p .0 .0) (a .first .now) (a .second .now) (s .pre .1 .0) (a .bits .now) (p .1 .0) (p .1 .2) _ y (r .found) (r .count) (r .at) (f .ensures .0) found room),
+      c .before .before .flip-at .ensures ∙ ap (flippedAt (take (r .count) (r .at))) (c .before .before .before .before .before .before .copy .ensures)
+          ∙ found-written (code (a .m) (a .t) (a .n)) (p .0 .0) (a .first .now) (a .second .now) (s .pre .1 .0) (a .bits .now) (p .1 .0) (p .1 .2) _ y (r .found) (r .count) (r .at) (f .ensures .0) found room (a .codeword .now),
+    )
+
+pub decode-with-spec : {M : Type 1} → statement M
+decode-with-spec =
+    tie.close
+    (tie.spec
+    syndromes-requires
+    locate-requires
+    returns
+    copy-requires
+    flip-at-requires
+    same-length
+    returns-2)

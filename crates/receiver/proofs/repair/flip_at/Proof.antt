@@ -1,0 +1,87 @@
+-- What is left to flip makes of the word what all flips make of it. Assumes nothing.
+use Prim.Native.Nat.{_-_, _≤_}
+use native.Mathlib.Omega.{arith}
+use mathlib.Core.Path.{_≡_, refl}
+use borrow.Author.Needs.{needs}
+use lib.ListN.{length, getD, take, drop, length-set}
+use Rattle.bch.specs.Words.{Bits, flippedAt}
+use Rattle.bch.proofs.Entries.{below-at, below-set}
+use Rattle.bch.proofs.HardAnswers.{flip-more, flip-end}
+use Rattle.receiver.proofs.repair.flip_at.Statement.{statement}
+use Rattle.receiver.proofs.repair.flip_at.Tie as tie
+
+abbrev Inv-loop : tie.InvT-loop
+Inv-loop out₀ count places i₀ out i =
+    (i ≤ count) × (length out ≡ length out₀) × Bits out × (flippedAt (drop i (take count places)) out ≡ flippedAt (take count places) out₀)
+
+abbrev μ-loop : tie.MeasureT-loop
+μ-loop out₀ count places i₀ out i = count - i
+
+loop-holds : tie.Need-loop-holds Inv-loop μ-loop
+loop-holds c = search needs
+
+mul-p : tie.Need-mul-p Inv-loop μ-loop
+mul-p c = search needs
+
+array-read-p : tie.Need-array-read-p Inv-loop μ-loop
+array-read-p c = search needs
+
+slice-read-out : tie.Need-slice-read-out Inv-loop μ-loop
+slice-read-out c =
+    let s = c .before .before .before .before in
+    omega (arith, s .pre .1 .inside (c .before .before .loop .i) (omega arith))
+
+sub-out : tie.Need-sub-out Inv-loop μ-loop
+sub-out c =
+    let s = c .before .before .before .before in
+    let l = c .before .before .loop in
+    omega (arith, below-at 1 (l .out) (getD (s .args .f .at) (l .i) 0) (l .inv .2))
+
+slice-write-out : tie.Need-slice-write-out Inv-loop μ-loop
+slice-write-out c =
+    let s = c .before .before .before .before in
+    omega (arith, s .pre .1 .inside (c .before .before .loop .i) (omega arith))
+
+add-i : tie.Need-add-i Inv-loop μ-loop
+add-i c = search needs
+
+loop-less : tie.Need-loop-less Inv-loop μ-loop
+loop-less c = search needs
+
+loop-again : tie.Need-loop-again Inv-loop μ-loop
+loop-again c =
+    let s = c .before .before .before .before in
+    let l = c .before .before .loop in
+    let a = s .args .f .at in (
+      omega arith,
+      simp length-set (l .inv .1),
+      below-set 2 (l .out) (getD a (l .i) 0) _ (omega arith) (l .inv .2),
+      flip-more (s .args .f .count) (l .i) _ a (l .out) (omega arith) (omega arith) refl (l .inv .3),
+    )
+
+same-length : tie.Need-same-length Inv-loop μ-loop
+same-length c = search needs
+
+returns : tie.Need-returns Inv-loop μ-loop
+returns c =
+    let s = c .before .before .before in
+    let l = c .before .loop in
+    flip-end (s .args .f .count) (l .i) (s .args .f .at) (l .out) (omega arith) (omega arith) (l .inv .3)
+
+pub flip-at-spec : {M : Type 1} → statement M
+flip-at-spec =
+    tie.close
+    (tie.spec
+    Inv-loop
+    μ-loop
+    loop-holds
+    mul-p
+    array-read-p
+    slice-read-out
+    sub-out
+    slice-write-out
+    add-i
+    loop-less
+    loop-again
+    same-length
+    returns)

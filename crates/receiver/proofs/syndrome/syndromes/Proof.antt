@@ -1,0 +1,80 @@
+-- What is added and what is left to add are the syndromes. Assumes nothing.
+use Prim.Native.Nat.{_-_, _≤_, _<_}
+use native.Mathlib.Omega.{arith}
+use mathlib.Core.Path.{_≡_}
+use borrow.Author.Needs.{needs}
+use lib.Bits.{bitXor}
+use lib.ListN.{length, getD, drop}
+use Rattle.galois.proofs.FieldTables.{primitive-tables}
+use Rattle.bch.specs.Code.{syndrome}
+use Rattle.bch.proofs.Entries.{below-at}
+use Rattle.bch.proofs.SyndromeSums.{bit-mul, sums, sums-acc, sums-end}
+use Rattle.receiver.proofs.syndrome.syndromes.Statement.{statement}
+use Rattle.receiver.proofs.syndrome.syndromes.Tie as tie
+
+abbrev Inv-loop : tie.InvT-loop
+Inv-loop m exps logs powers bits acc₀ i₀ acc i = (i ≤ length bits) × (bitXor acc (sums m i (drop i bits)) ≡ sums m 0 bits)
+
+abbrev μ-loop : tie.MeasureT-loop
+μ-loop m exps logs powers bits acc₀ i₀ acc i = length bits - i
+
+loop-holds : tie.Need-loop-holds Inv-loop μ-loop
+loop-holds c = search needs
+
+shared-slice-read-wide : tie.Need-shared-slice-read-wide Inv-loop μ-loop
+shared-slice-read-wide c = search needs
+
+wide-requires : tie.Need-wide-requires Inv-loop μ-loop
+wide-requires c κs = search needs
+
+mul-acc : tie.Need-mul-acc Inv-loop μ-loop
+mul-acc c = search needs
+
+shared-slice-read-acc : tie.Need-shared-slice-read-acc Inv-loop μ-loop
+shared-slice-read-acc c = search needs
+
+mul-acc-2 : tie.Need-mul-acc-2 Inv-loop μ-loop
+mul-acc-2 c =
+    let s = c .before .before .before .before .before .before .before .before .before in
+    let i = c .before .before .before .before .loop .i in
+    let h : c .before .wide .result < 2 = omega (arith, below-at 1 (s .args .bits .now) i (s .pre .1 .1)) in
+    omega (arith, c .shared-slice-known6 .given i, bit-mul _ (getD (s .args .powers .now) i 0) h)
+
+add-i : tie.Need-add-i Inv-loop μ-loop
+add-i c = search needs
+
+loop-less : tie.Need-loop-less Inv-loop μ-loop
+loop-less c = search needs
+
+loop-again : tie.Need-loop-again Inv-loop μ-loop
+loop-again c =
+    let s = c .before .before .before .before .before .before .before .before .before in
+    let l = c .before .before .before .before .loop in
+    let f = s .pre .0 in (
+      omega arith,
+      sums-acc (s .args .m) (primitive-tables _ _ _ _ f) (f .most) (s .args .bits .now) (s .pre .1 .1) (l .i) (l .acc) _ _ (omega arith) (c .before .wide .ensures)
+          (f .powers (l .i) (omega arith)) (l .inv .1),
+    )
+
+returns : tie.Need-returns Inv-loop μ-loop
+unfolding syndrome
+returns c =
+    let s = c .before .before .before .before .before .before in
+    sums-end (s .args .m) (c .before .loop .i) _ (s .args .bits .now) (omega arith) (c .before .loop .inv .1)
+
+pub syndromes-spec : {M : Type 1} → statement M
+syndromes-spec =
+    tie.close
+    (tie.spec
+    Inv-loop
+    μ-loop
+    loop-holds
+    shared-slice-read-wide
+    wide-requires
+    mul-acc
+    shared-slice-read-acc
+    mul-acc-2
+    add-i
+    loop-less
+    loop-again
+    returns)

@@ -1,0 +1,29 @@
+// The syndromes of a word.
+ghost use mathlib.Core.Path.{_≡_};
+ghost use Prim.Native.Nat.{_-_, _≤_, _^_};
+ghost use lib.ListN.{length};
+ghost use Rattle.galois.specs.Packed.{packed};
+ghost use Rattle.galois.proofs.FieldTables.{FieldTables};
+ghost use Rattle.bch.specs.Words.{Bits};
+ghost use Rattle.bch.specs.Code.{syndrome};
+
+fn wide(x: u8) -> u32
+    ensures { λ r. ⌜ r ≡ x ⌝ }
+{
+    x as u32
+}
+
+// S1, S3 and S5 in one number, in one pass without branches.
+pub fn syndromes(m: usize, exps: &[u16], logs: &[u16], powers: &[u32], bits: &[u8]) -> u32
+    requires { ⌜ FieldTables m (now exps) (now logs) (now powers) ⌝ }
+    requires { ⌜ (length (now bits) ≤ 2 ^ m - 1) × Bits (now bits) ⌝ }
+    ensures { λ r. ⌜ r ≡ packed (syndrome m 1 (now (bits .entry))) (syndrome m 3 (now (bits .entry))) (syndrome m 5 (now (bits .entry))) ⌝ }
+{
+    let mut acc: u32 = 0;
+    let mut i = 0;
+    while i < bits.len() {
+        acc = acc ^ wide(bits[i]) * powers[i];
+        i += 1;
+    }
+    acc
+}

@@ -1,0 +1,169 @@
+// Measures the two calls. With the argument `time` it prints, for each of four codes n k t, how many
+// nanoseconds of processor time one call of `encode` takes, in all and for each message bit, and one
+// call of `decode_hard` on a codeword with 0, t and t + 1 errors. With no argument it makes the same
+// calls once and prints only what they answer.
+mod clock;
+mod words;
+
+ghost use Prim.Native.Nat.{_≤_};
+use receiver::Hard;
+use test_lines::number;
+use test_lines::text;
+
+// Writes n, k and t of the code.
+fn print_code(t: usize, message: &[u8], codeword: &[u8]) {
+    number(codeword.len());
+    text(b" ");
+    number(message.len());
+    text(b" ");
+    number(t);
+}
+
+// Encodes the message once and writes the answer.
+fn print_encode(m: usize, t: usize, message: &[u8], codeword: &mut [u8]) {
+    text(b" encode: ");
+    match encoder::encode(m, t, codeword.len(), message, codeword) {
+        encoder::Encoded::Refused(refusal) => {
+            test_lines::refused(refusal);
+        }
+        encoder::Encoded::Written => {
+            text(b"written");
+        }
+    }
+}
+
+// Decodes the word once and writes the answer.
+fn print_hard(m: usize, t: usize, word: &[u8], codeword: &mut [u8]) {
+    match receiver::decode_hard(m, t, codeword.len(), word, codeword) {
+        Hard::Refused(refusal) => {
+            test_lines::refused(refusal);
+        }
+        Hard::Lost => {
+            text(b"lost");
+        }
+        Hard::Found(flips) => {
+            test_lines::flips(flips);
+        }
+    }
+}
+
+// Writes a number of tenths of a nanosecond.
+fn print_tenths(tenths: usize) {
+    text(b", ");
+    number(tenths / 10);
+    text(b".");
+    number(tenths % 10);
+    text(b" ns");
+}
+
+// Writes the tenths of a nanosecond that a message of that many bits takes, and those of one bit.
+fn print_tenths_of(tenths: usize, bits: usize) {
+    print_tenths(tenths);
+    if 0 < bits {
+        print_tenths(tenths / bits);
+        text(b" a bit");
+    }
+}
+
+// The row of `encode`.
+fn encode_row(timed: bool, m: usize, t: usize, message: &[u8], codeword: &mut [u8]) {
+    print_code(t, message, codeword);
+    print_encode(m, t, message, codeword);
+    if !timed {
+        text(b"\n");
+        return;
+    }
+    print_tenths_of(clock::best(false, m, t, message, codeword), message.len());
+    text(b"\n");
+}
+
+// The row of `decode_hard` on the message's codeword with that many errors, `step` positions apart.
+fn hard_row(
+    timed: bool,
+    m: usize,
+    t: usize,
+    errors: usize,
+    step: usize,
+    message: &[u8],
+    word: &mut [u8],
+    codeword: &mut [u8],
+) {
+    encoder::encode(m, t, word.len(), message, word);
+    words::flip(word, errors, step);
+    print_code(t, message, codeword);
+    text(b" hard with ");
+    number(errors);
+    text(b" errors: ");
+    print_hard(m, t, word, codeword);
+    if !timed {
+        text(b"\n");
+        return;
+    }
+    print_tenths(clock::best(true, m, t, word, codeword));
+    text(b"\n");
+}
+
+// The four rows of one code for a message of it, by buffers of the length of its words.
+fn rows(
+    timed: bool,
+    m: usize,
+    t: usize,
+    step: usize,
+    message: &[u8],
+    word: &mut [u8],
+    codeword: &mut [u8],
+)
+    requires { ⌜ t ≤ 3 ⌝ }
+{
+    encode_row(timed, m, t, message, codeword);
+    hard_row(timed, m, t, 0, step, message, word, codeword);
+    hard_row(timed, m, t, t, step, message, word, codeword);
+    hard_row(timed, m, t, t + 1, step, message, word, codeword);
+}
+
+// The rows of one code for a message that is made here.
+fn code_rows(
+    timed: bool,
+    m: usize,
+    t: usize,
+    step: usize,
+    message: &mut [u8],
+    word: &mut [u8],
+    codeword: &mut [u8],
+)
+    requires { ⌜ t ≤ 3 ⌝ }
+{
+    words::fill(message);
+    rows(timed, m, t, step, message, word, codeword);
+}
+
+// The rows of the four codes. At each step the word with t + 1 errors is lost.
+fn all_rows(timed: bool) {
+    code_rows(timed, 5, 2, 9, &mut [0; 21], &mut [0; 31], &mut [0; 31]);
+    code_rows(timed, 6, 2, 20, &mut [0; 51], &mut [0; 63], &mut [0; 63]);
+    code_rows(timed, 8, 2, 80, &mut [0; 239], &mut [0; 255], &mut [0; 255]);
+    code_rows(timed, 8, 3, 61, &mut [0; 231], &mut [0; 255], &mut [0; 255]);
+}
+
+// Whether the first argument is `time`.
+fn asks_time() -> bool {
+    let mut argument = [0u8; 8];
+    let n = os::arg(1, &mut argument);
+    test_lines::is_same(&argument[..n], b"time")
+}
+
+// Prints the answers, or the times where they are asked for.
+fn main() {
+    let arguments = os::arg_count();
+    if arguments < 2 {
+        all_rows(false);
+        return;
+    }
+    if arguments == 2 {
+        if asks_time() {
+            all_rows(true);
+            return;
+        }
+    }
+    text(b"usage: speed [time]\n");
+}

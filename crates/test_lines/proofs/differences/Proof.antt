@@ -1,0 +1,53 @@
+-- `test_lines::differences` is safe and ends: the sum is at most the positions passed, the measure those left. Assumes nothing.
+use Prim.Native.Nat.{_-_, _≤_}
+use mathlib.Core.Logic.{⊎-elim}
+use native.Mathlib.Omega.{arith}
+use borrow.Author.Needs.{needs}
+use lib.ListN.{length}
+use Rattle.test_lines.proofs.differences.Statement.{statement}
+use Rattle.test_lines.proofs.differences.Tie as tie
+
+abbrev Inv-loop : tie.InvT-loop
+Inv-loop one other sum₀ i₀ sum i = sum ≤ i
+
+abbrev μ-loop : tie.MeasureT-loop
+μ-loop one other sum₀ i₀ sum i = length one - i
+
+loop-holds : tie.Need-loop-holds Inv-loop μ-loop
+loop-holds c = search needs
+
+shared-slice-read-if2 : tie.Need-shared-slice-read-if2 Inv-loop μ-loop
+shared-slice-read-if2 c = search needs
+
+shared-slice-read-if2-2 : tie.Need-shared-slice-read-if2-2 Inv-loop μ-loop
+shared-slice-read-if2-2 c = search needs
+
+add-sum : tie.Need-add-sum Inv-loop μ-loop
+add-sum c = search needs
+
+add-i : tie.Need-add-i Inv-loop μ-loop
+add-i c = search needs
+
+loop-less : tie.Need-loop-less Inv-loop μ-loop
+loop-less c = search needs
+
+loop-again : tie.Need-loop-again Inv-loop μ-loop
+loop-again c = ⊎-elim (λ w. omega arith) (⊎-elim (λ w. omega arith) (λ w. omega arith)) (c .if1 .came)
+
+returns : tie.Need-returns Inv-loop μ-loop
+returns c = search needs
+
+pub differences-spec : {M : Type 1} → statement M
+differences-spec =
+    tie.close
+    (tie.spec
+    Inv-loop
+    μ-loop
+    loop-holds
+    shared-slice-read-if2
+    shared-slice-read-if2-2
+    add-sum
+    add-i
+    loop-less
+    loop-again
+    returns)

@@ -1,0 +1,64 @@
+// What the test programs share: text, numbers, bits and refusals on standard output, and the
+// comparison of words.
+use libc::STDOUT_FILENO;
+use refusal::Refusal;
+
+// Writes the text as it stands.
+pub fn text(words: &[u8]) {
+    io::write_all(STDOUT_FILENO, words);
+}
+
+// Writes the number in decimal.
+pub fn number(value: usize) {
+    io::print_decimal(STDOUT_FILENO, value as u64);
+}
+
+// Writes each byte of the word as a number, with nothing between: a word of bits as 0s and 1s.
+pub fn bits(word: &[u8]) {
+    let mut i = 0;
+    while i < word.len() {
+        number(word[i] as usize);
+        i += 1;
+    }
+}
+
+// Writes how many positions were flipped.
+pub fn flips(count: usize) {
+    number(count);
+    if count == 1 {
+        text(b" flip");
+    } else {
+        text(b" flips");
+    }
+}
+
+// Writes `refused`, the refusal's number and its place.
+pub fn refused(refusal: Refusal) {
+    text(b"refused ");
+    number(refusal.number);
+    text(b" ");
+    number(refusal.place);
+}
+
+// Whether the two are as long as each other and equal in each byte.
+pub fn is_same(one: &[u8], other: &[u8]) -> bool {
+    if one.len() != other.len() {
+        return false;
+    }
+    differences(one, other) == 0
+}
+
+// How many positions differ between two words of one length.
+pub fn differences(one: &[u8], other: &[u8]) -> usize {
+    let mut sum = 0;
+    let mut i = 0;
+    while i < one.len() {
+        if i < other.len() {
+            if one[i] != other[i] {
+                sum += 1;
+            }
+        }
+        i += 1;
+    }
+    sum
+}
