@@ -19,7 +19,7 @@ use Rattle.bch.specs.Code.{powerSumFrom}
 use Rattle.bch.proofs.Entries.{below-at, below-drop}
 use Rattle.bch.proofs.SyndromeLaws.{powerSum-lt}
 
-pub bit-mul : (b x : ℕ) → b < 2 → b * x ≤ x
+bit-mul : (b x : ℕ) → b < 2 → b * x ≤ x
 bit-mul b x h = bit-cases (λ (b : ℕ). b * x ≤ x) (omega arith) (omega arith) b h
 
 bit-packed : (b x y z : ℕ) → b < 2 → b * packed x y z ≡ packed (b * x) (b * y) (b * z)

@@ -1,16 +1,18 @@
 // The syndromes of a word.
 ghost use mathlib.Core.Path.{_≡_};
-ghost use Prim.Native.Nat.{_-_, _≤_, _^_};
+ghost use Prim.Native.Nat.{_-_, _*_, _<_, _≤_, _^_};
 ghost use lib.ListN.{length};
 ghost use Rattle.galois.specs.Packed.{packed};
 ghost use Rattle.galois.proofs.FieldTables.{FieldTables};
 ghost use Rattle.bch.specs.Words.{Bits};
 ghost use Rattle.bch.specs.Code.{syndrome};
 
-fn wide(x: u8) -> u32
-    ensures { λ r. ⌜ r ≡ x ⌝ }
+// x where the bit is 1, and 0 where it is 0.
+fn where_set(bit: u8, x: u32) -> u32
+    requires { ⌜ bit < 2 ⌝ }
+    ensures { λ r. ⌜ r ≡ bit * x ⌝ }
 {
-    x as u32
+    if bit == 0 { 0 } else { x }
 }
 
 // S1, S3 and S5 in one number, in one pass without branches.
@@ -22,7 +24,7 @@ pub fn syndromes(m: usize, exps: &[u16], logs: &[u16], powers: &[u32], bits: &[u
     let mut acc: u32 = 0;
     let mut i = 0;
     while i < bits.len() {
-        acc = acc ^ wide(bits[i]) * powers[i];
+        acc = acc ^ where_set(bits[i], powers[i]);
         i += 1;
     }
     acc

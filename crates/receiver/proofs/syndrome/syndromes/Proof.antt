@@ -1,14 +1,14 @@
 -- What is added and what is left to add are the syndromes. Assumes nothing.
-use Prim.Native.Nat.{_-_, _≤_, _<_}
+use Prim.Native.Nat.{_-_, _≤_}
 use native.Mathlib.Omega.{arith}
-use mathlib.Core.Path.{_≡_}
+use mathlib.Core.Path.{_≡_, refl}
 use borrow.Author.Needs.{needs}
 use lib.Bits.{bitXor}
-use lib.ListN.{length, getD, drop}
+use lib.ListN.{length, drop}
 use Rattle.galois.proofs.FieldTables.{primitive-tables}
 use Rattle.bch.specs.Code.{syndrome}
 use Rattle.bch.proofs.Entries.{below-at}
-use Rattle.bch.proofs.SyndromeSums.{bit-mul, sums, sums-acc, sums-end}
+use Rattle.bch.proofs.SyndromeSums.{sums, sums-acc, sums-end}
 use Rattle.receiver.proofs.syndrome.syndromes.Statement.{statement}
 use Rattle.receiver.proofs.syndrome.syndromes.Tie as tie
 
@@ -21,24 +21,19 @@ abbrev μ-loop : tie.MeasureT-loop
 loop-holds : tie.Need-loop-holds Inv-loop μ-loop
 loop-holds c = search needs
 
-shared-slice-read-wide : tie.Need-shared-slice-read-wide Inv-loop μ-loop
-shared-slice-read-wide c = search needs
+shared-slice-read-where-set : tie.Need-shared-slice-read-where-set Inv-loop μ-loop
+shared-slice-read-where-set c = search needs
 
-wide-requires : tie.Need-wide-requires Inv-loop μ-loop
-wide-requires c κs = search needs
+mul-where-set : tie.Need-mul-where-set Inv-loop μ-loop
+mul-where-set c = search needs
 
-mul-acc : tie.Need-mul-acc Inv-loop μ-loop
-mul-acc c = search needs
+shared-slice-read-where-set-2 : tie.Need-shared-slice-read-where-set-2 Inv-loop μ-loop
+shared-slice-read-where-set-2 c = search needs
 
-shared-slice-read-acc : tie.Need-shared-slice-read-acc Inv-loop μ-loop
-shared-slice-read-acc c = search needs
-
-mul-acc-2 : tie.Need-mul-acc-2 Inv-loop μ-loop
-mul-acc-2 c =
-    let s = c .before .before .before .before .before .before .before .before .before in
-    let i = c .before .before .before .before .loop .i in
-    let h : c .before .wide .result < 2 = omega (arith, below-at 1 (s .args .bits .now) i (s .pre .1 .1)) in
-    omega (arith, c .shared-slice-known6 .given i, bit-mul _ (getD (s .args .powers .now) i 0) h)
+where-set-requires : tie.Need-where-set-requires Inv-loop μ-loop
+where-set-requires c κs =
+    let s = c .before .before .before .before .before .before .before .before in
+    below-at 1 (s .args .bits .now) (c .before .before .before .loop .i) (s .pre .1 .1)
 
 add-i : tie.Need-add-i Inv-loop μ-loop
 add-i c = search needs
@@ -52,8 +47,9 @@ loop-again c =
     let l = c .before .before .before .before .loop in
     let f = s .pre .0 in (
       omega arith,
-      sums-acc (s .args .m) (primitive-tables _ _ _ _ f) (f .most) (s .args .bits .now) (s .pre .1 .1) (l .i) (l .acc) _ _ (omega arith) (c .before .wide .ensures)
-          (f .powers (l .i) (omega arith)) (l .inv .1),
+      rw (c .where-set .ensures)
+          (sums-acc (s .args .m) (primitive-tables _ _ _ _ f) (f .most) (s .args .bits .now) (s .pre .1 .1) (l .i) (l .acc) _ _ (omega arith) refl (f .powers (l .i) (omega arith))
+          (l .inv .1)),
     )
 
 returns : tie.Need-returns Inv-loop μ-loop
@@ -69,11 +65,10 @@ syndromes-spec =
     Inv-loop
     μ-loop
     loop-holds
-    shared-slice-read-wide
-    wide-requires
-    mul-acc
-    shared-slice-read-acc
-    mul-acc-2
+    shared-slice-read-where-set
+    mul-where-set
+    shared-slice-read-where-set-2
+    where-set-requires
     add-i
     loop-less
     loop-again
