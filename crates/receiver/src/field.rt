@@ -9,7 +9,7 @@ ghost use Rattle.galois.proofs.FieldTables.{Exponentials, Logarithms, Powers, F
 ghost use Rattle.bch.specs.Locator.{cubed};
 ghost use Rattle.bch.proofs.KappaDecoder.{fifthed};
 
-// The polynomial that alpha is a root of.
+// The polynomial that α is a root of.
 fn polynomial(m: usize) -> usize
     requires { ⌜ (5 ≤ m) × (m ≤ 8) ⌝ }
     ensures { λ r. ⌜ r ≡ poly m ⌝ }
@@ -35,7 +35,7 @@ pub fn size(m: usize) -> usize
     }
 }
 
-// alpha times a.
+// α times a.
 fn twice(m: usize, top: usize, g: usize, a: usize) -> usize
     requires { ⌜ (5 ≤ m) × (m ≤ 10) × (top ≡ 2 ^ m) × (g ≡ poly m) × (a < 2 ^ m) ⌝ }
     ensures { λ r. ⌜ (r ≡ double m a) × (r < 2 ^ m) ⌝ }
@@ -44,6 +44,7 @@ fn twice(m: usize, top: usize, g: usize, a: usize) -> usize
     if y < top { y } else { y ^ g }
 }
 
+// A number in 16 bits.
 pub fn narrow(x: usize) -> u16
     requires { ⌜ x < 65536 ⌝ }
     ensures { λ r. ⌜ r ≡ x ⌝ }
@@ -51,7 +52,7 @@ pub fn narrow(x: usize) -> u16
     x as u16
 }
 
-// exps[i] = alpha^i for two periods, and logs[alpha^i] = i; the logarithm of 0 is the period.
+// exps[i] = α^i for two periods, and logs[α^i] = i; the logarithm of 0 is the period.
 fn fill_logs(m: usize, exps: &mut [u16], logs: &mut [u16])
     requires { ⌜ (5 ≤ m) × (m ≤ 8) × (2 * (2 ^ m - 1) ≤ length (now exps)) × (2 ^ m ≤ length (now logs)) ⌝ }
     ensures { λ _. ⌜ Exponentials m (now (exps .exit)) × Logarithms m (now (logs .exit)) ⌝ }
@@ -81,6 +82,7 @@ fn back(e: usize, d: usize, period: usize) -> usize
     if d <= e { e - d } else { e + (period - d) }
 }
 
+// An element as part of a packed number.
 fn wide(x: u16) -> u32
     ensures { λ r. ⌜ r ≡ x ⌝ }
 {
@@ -99,8 +101,8 @@ fn pack(m: usize, exps: &[u16], i: usize, j: usize, k: usize) -> u32
     a + 1024 * b + 1048576 * c
 }
 
-// What each position adds to S1, S3 and S5: the first, third and fifth power of its alpha^position, in one number. (From the
-// last position down: an exponent that falls is reduced in fewer steps than one that rises.)
+// What each position adds to S1, S3 and S5: the first, third and fifth power of α^position, in one number. (From the last
+// position down: an exponent that falls is reduced in fewer steps than one that rises.)
 fn fill_powers(m: usize, period: usize, exps: &[u16], powers: &mut [u32])
     requires { ⌜ (5 ≤ m) × (m ≤ 10) × (32 ≤ 2 ^ m) × (2 ^ m ≤ 1024) × (period ≡ 2 ^ m - 1) × (2 * (2 ^ m - 1) ≤ length (now exps)) × (2 ^ m ≤ length (now powers)) ⌝ }
     requires { ⌜ Exponentials m (now exps) ⌝ }
@@ -127,12 +129,14 @@ pub fn fill(m: usize, period: usize, exps: &mut [u16], logs: &mut [u16], powers:
     fill_powers(m, period, exps, powers);
 }
 
+// A part of a packed number as an element.
 pub fn index(x: u32) -> usize
     ensures { λ r. ⌜ r ≡ x ⌝ }
 {
     x as usize
 }
 
+// An entry as a number.
 fn widen(x: u16) -> usize
     ensures { λ r. ⌜ r ≡ x ⌝ }
 {
@@ -156,7 +160,7 @@ pub fn log_of(m: usize, exps: &[u16], logs: &[u16], powers: &[u32], a: usize) ->
     widen(logs[a])
 }
 
-// alpha^e, for an exponent below two periods.
+// α^e, for an exponent below two periods.
 pub fn power_of(m: usize, exps: &[u16], logs: &[u16], powers: &[u32], e: usize) -> usize
     requires { ⌜ FieldTables m (now exps) (now logs) (now powers) ⌝ }
     requires { ⌜ e < 2 * (2 ^ m - 1) ⌝ }

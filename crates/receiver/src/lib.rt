@@ -1,4 +1,14 @@
-// The receiver: the hard stage (document 01, "Hard stage"; bounded-distance decoding of a binary BCH code).
+// The receiver of a BCH word (document 01, "Hard stage"; bounded-distance decoding).
+//
+//     match receiver::decode_hard(6, 2, 63, &bits, &mut codeword) {
+//         receiver::Hard::Found(flips) => { .. }      // the codeword is in the buffer
+//         receiver::Hard::Lost => { .. }              // no codeword within t flips: the buffer is as it was
+//         receiver::Hard::Refused(r) => { .. }        // r.number, r.place: the buffer is as it was
+//     }
+//
+// A call checks its settings, lengths and bits (`refusal`), fills the tables of the field (`field`) and of the solutions that t
+// needs (`roots`), adds up the syndromes S1, S3, S5 (`syndrome`), finds the positions to flip (`locate`) and only then writes
+// (`repair`). What has a `requires` is in private modules.
 ghost use mathlib.Core.Path.{_≡_};
 ghost use Rattle.bch.specs.Code.{code};
 ghost use Rattle.take_format.specs.Calls.{hardAnswer, hardBuffer};
@@ -19,7 +29,7 @@ pub enum Hard {
     Found(usize),
 }
 
-// Writes the codeword within t flips of n bits, where there is one.
+// Writes the codeword within t flips of n bits, where there is one. Any m, t, n, bits and buffer may be handed in.
 pub fn decode_hard(m: usize, t: usize, n: usize, bits: &[u8], codeword: &mut [u8]) -> Hard
     ensures { λ r. ⌜ hardOf r ≡ hardAnswer (code m t n) (now (bits .entry)) (now (codeword .entry)) ⌝ }
     ensures { λ _. ⌜ now (codeword .exit) ≡ hardBuffer (code m t n) (now (bits .entry)) (now (codeword .entry)) ⌝ }

@@ -1,8 +1,9 @@
-// The positions to flip, from the syndromes: Peterson's locator and its roots in closed form (document 01, "Hard stage").
+// The positions to flip, from the syndromes: Peterson's locator (document 01, "Hard stage") and its roots in closed form.
 //
-// With D2 = S1^3 + S3 and E = S1^5 + S5 = S1^2 D2 + δ2, the elements X = alpha^position of two or three errors are S1 + Y, where
-// D2 Y^3 + E Y + D2^2 = 0. For E = 0 the Y are the cube roots of D2. Elsewhere Y = W D2^2 / E, where W^3 = k (W + 1) and
-// k = E^3 / D2^5; two of the three W stand in tables, and the third Y is the sum of the other two. An X of 0 is no error.
+// D2 = S1^3 + S3 tells at most one error (0) from more. For t = 2 the two X = α^position have the sum S1 and are S1 w and S1 (w + 1),
+// where w^2 + w = D2 / S1^3. For t = 3, with E = S1^2 D2 + δ2 = S1^5 + S5, they are X = S1 + Y, where D2 Y^3 + E Y + D2^2 = 0: where E
+// is 0 the Y are the cube roots of D2; elsewhere Y = W D2^2 / E, where W^3 = k (W + 1) and k = E^3 / D2^5. Two of the three W stand in
+// tables, and the third Y is the sum of the other two. Two errors are no case of their own: D3 is then 0, and one X with it.
 ghost use mathlib.Core.Path.{_≡_};
 ghost use mathlib.Core.Bool.{false};
 ghost use mathlib.Core.List.{[], _∷_, _++_};
@@ -24,6 +25,7 @@ pub struct Elements {
     pub at: [usize; 3],
 }
 
+// No element.
 fn none(m: usize) -> Elements
     ensures { λ r. ⌜ (r .count ≡ 0) × Listed m (r .count) (r .at) [] ⌝ }
 {
@@ -123,7 +125,7 @@ fn by_cubes(
     trio(m, s1, x, y)
 }
 
-// Two or three elements where E is not 0, by kappa = E^3 / D2^5.
+// Two or three elements where E is not 0, by k = E^3 / D2^5.
 fn by_kappa(
     m: usize,
     period: usize,
@@ -211,6 +213,7 @@ pub struct Flips {
     pub at: [usize; 3],
 }
 
+// Nothing to flip is found.
 fn lost() -> Flips
     ensures { λ r. ⌜ (r .found ≡ false) × (r .count ≡ 0) × (length (r .at) ≡ 3) ⌝ }
 {

@@ -19,6 +19,7 @@ use crate::locate::Flips;
 use crate::roots;
 use crate::syndrome;
 
+// Copies the bits.
 fn copy(bits: &[u8], out: &mut [u8])
     requires { ⌜ length (now out) ≡ length (now bits) ⌝ }
     ensures { λ _. ⌜ now (out .exit) ≡ now (bits .entry) ⌝ }
@@ -45,7 +46,7 @@ fn flip_at(out: &mut [u8], f: Flips)
     }
 }
 
-// The hard stage, with tables.
+// The hard stage with tables that are filled: the answer is known before the buffer is written.
 fn decode_with(
     m: usize,
     t: usize,
@@ -77,7 +78,7 @@ fn decode_with(
     Hard::Found(f.count)
 }
 
-// The hard stage, with tables of its own: they have room for m = 10.
+// The hard stage with tables of its own, which have room for m = 10.
 pub fn decode(m: usize, t: usize, n: usize, bits: &[u8], codeword: &mut [u8]) -> Hard
     requires { ⌜ BitsAccepted (code m t n) n (now bits) (now codeword) ⌝ }
     ensures { λ r. ⌜ hardOf r ≡ inr (hardFlips (code m t n) (now (bits .entry))) ⌝ }

@@ -68,7 +68,7 @@ fn fill_kappas(
     }
 }
 
-// The tables that t errors need: none for one, the quadratics for two, those of kappa for three.
+// The tables that t errors need: none for one, that of the quadratics for two, the pair for W of `locate` for three.
 pub fn fill(
     m: usize,
     t: usize,

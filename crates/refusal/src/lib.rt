@@ -67,6 +67,7 @@ pub fn settings(m: usize, t: usize, n: usize) -> Check
     Check::Passed
 }
 
+// A byte that neither is above.
 fn larger(a: u8, b: u8) -> u8
     ensures { λ r. ⌜ (a ≤ r) × (b ≤ r) ⌝ }
 {
