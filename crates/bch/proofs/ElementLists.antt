@@ -29,6 +29,8 @@ three-entries m a b c ha hb hc (suc zero) = hb
 three-entries m a b c ha hb hc (suc (suc zero)) = hc
 three-entries m a b c ha hb hc (suc (suc (suc i))) = pow-pos m
 
+-- ---- an element more, unless it is 0
+
 pub put-none : (x : ℕ) (E : List ℕ) → x ≡ 0 → E ≡ E ++ nonzero (x ∷ [])
 unfolding nonzero
 put-none x E e = sym (ap (λ (l : List ℕ). E ++ l) (zero-is x [] (x ∷ []) e) ∙ append-nil E)
@@ -42,16 +44,20 @@ unfolding nonzero ifZero
 nonzero-cons zero l = refl
 nonzero-cons (suc x) l = refl
 
+-- so a list of one is put together, ..
 pub single-is : (s : ℕ) → nonzero (s ∷ []) ≡ single s
 unfolding nonzero single
 single-is s = refl
 
+-- .. and one of three
 pub trio-is : (s x y : ℕ) → (nonzero (bitXor s x ∷ []) ++ nonzero (bitXor s y ∷ [])) ++ nonzero (bitXor s (bitXor x y) ∷ []) ≡ trio s x y
 unfolding trio
 trio-is s x y =
     append-assoc (nonzero (bitXor s x ∷ [])) (nonzero (bitXor s y ∷ [])) (nonzero (bitXor s (bitXor x y) ∷ []))
     ∙ ap (λ (l : List ℕ). nonzero (bitXor s x ∷ []) ++ l) (sym (nonzero-cons (bitXor s y) (bitXor s (bitXor x y) ∷ [])))
     ∙ sym (nonzero-cons (bitXor s x) (bitXor s y ∷ bitXor s (bitXor x y) ∷ []))
+
+-- ---- two elements, by the table of quadratics
 
 -- two elements of sum s1 by D2, as in `pair`
 unfoldable pub pairBy : ℕ → (ℕ → ℕ) → ℕ → ℕ → List ℕ
@@ -71,6 +77,8 @@ pub pair-by : (m : ℕ) (quad : ℕ → ℕ) (s1 s3 : ℕ) → pairBy m quad s1 
 unfolding pairBy pair
 pair-by m quad s1 s3 = refl
 
+-- ---- three elements where E is 0: none where there are no three cube roots, ..
+
 module _ (m s1 d : ℕ) where
   pub cubes-none : (p : ℕ) → p ≡ 2 ^ m - 1 → p % 3 ≢ 0 → [] ≡ byCubes m s1 d
   unfolding byCubes
@@ -83,6 +91,7 @@ module _ (m s1 d : ℕ) where
         let k : log m d % 3 ≢ 0 = λ z. n (ap (λ (x : ℕ). x % 3) q ∙ z) in
         simp (eq-eqb ((2 ^ m - 1) % 3) 0 (ap (λ (x : ℕ). x % 3) (sym e) ∙ z), ne-eqb (log m d % 3) 0 k)
 
+    -- .. and otherwise two of them, and their sum
     pub cubes-three : (x y : ℕ) → l % 3 ≡ 0 → x ≡ alpha m (l / 3) → y ≡ alpha m (l / 3 + p / 3) → trio s1 x y ≡ byCubes m s1 d
     unfolding byCubes
     cubes-three x y n hx hy =
@@ -91,6 +100,8 @@ module _ (m s1 d : ℕ) where
         let v : y ≡ alpha m (log m d / 3 + (2 ^ m - 1) / 3) = hy ∙ ap₂ (λ (x y : ℕ). alpha m (x / 3 + y / 3)) q e in
         simp (eq-eqb ((2 ^ m - 1) % 3) 0 (ap (λ (x : ℕ). x % 3) (sym e) ∙ z), eq-eqb (log m d % 3) 0 k) (ap₂ (trio s1) u v)
 
+-- ---- two or three elements elsewhere: none where the table has no second solution, ..
+
 module _ (m : ℕ) (first second : ℕ → ℕ) (s1 d e k : ℕ) (q : k ≡ kappa m d e) where
   pub kappa-none : (w : ℕ) → w ≡ second k → w ≡ 0 → [] ≡ byKappa m first second s1 d e
   unfolding byKappa
@@ -98,6 +109,7 @@ module _ (m : ℕ) (first second : ℕ → ℕ) (s1 d e k : ℕ) (q : k ≡ kapp
       sym (zero-is (second (kappa m d e)) [] (trio s1 (mul m (first (kappa m d e)) (scale m d e)) (mul m (second (kappa m d e)) (scale m d e)))
       (ap second (sym q) ∙ sym h ∙ z))
 
+  -- .. and otherwise both, scaled, and their sum
   pub kappa-three : (w u f x y : ℕ) → w ≡ second k → u ≡ first k → w ≢ 0 → f ≡ scale m d e → x ≡ mul m u f → y ≡ mul m w f
       → trio s1 x y ≡ byKappa m first second s1 d e
   unfolding byKappa
@@ -111,10 +123,10 @@ module _ (m : ℕ) (first second : ℕ → ℕ) (s1 d e k : ℕ) (q : k ≡ kapp
 -- ---- the elements that t errors can have
 
 module _ (m : ℕ) (quad first second : ℕ → ℕ) (s1 s3 s5 : ℕ) where
-  -- by t
   abbrev All : ℕ → List ℕ
   All t = elements m quad (kappas m first second) t s1 s3 s5
 
+  -- t = 1; D2 = 0; t = 2; and of t = 3, E = 0 and the rest
   pub all-one : (t : ℕ) → t ≡ 1 → single s1 ≡ All t
   unfolding elements
   all-one t e = rw e refl
@@ -148,5 +160,6 @@ module _ (m : ℕ) (quad first second : ℕ → ℕ) (s1 s3 s5 : ℕ) where
         ap₂ (byKappa m first second s1) q r
         ∙ sym (zero-not (e5 m s1 s5) (byCubes m s1 (d2 m s1 s3)) (byKappa m first second s1 (d2 m s1 s3) (e5 m s1 s5)) (λ k. z (r ∙ k))) ∙ sym more
 
+-- a list by another name
 pub listed-as : (m k : ℕ) (xs E F : List ℕ) → E ≡ F → Listed m k xs E → Listed m k xs F
 listed-as m k xs E F e l = record { few = l .few; long = l .long; entries = l .entries; are = l .are ∙ e }

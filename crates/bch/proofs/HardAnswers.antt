@@ -77,13 +77,12 @@ module _ (c : Code) (lawful : Lawful c) (first second : List ℕ) (tables : Root
           answer
           ∙ ap (λ (b : Bool). Option·map (λ (P : List ℕ). record { word = flippedAt P xs; flips = length P }) (positions b count ps)) z
 
-      pub lost-flips : none ≡ hardFlips c xs
-      unfolding hardFlips
-      lost-flips = sym (ap (Option·map (λ (r : Repair). r .flips)) lost)
-
-      pub lost-written : (old : List ℕ) → old ≡ hardWritten c xs old
-      unfolding hardWritten
-      lost-written old = sym (ap (λ (o : Option Repair). Option·getD (Option·map (λ (r : Repair). r .word) o) old) lost)
+      pub lost-answer : (old : List ℕ) → (none ≡ hardFlips c xs) × (old ≡ hardWritten c xs old)
+      unfolding hardFlips hardWritten
+      lost-answer old = (
+        sym (ap (Option·map (λ (r : Repair). r .flips)) lost),
+        sym (ap (λ (o : Option Repair). Option·getD (Option·map (λ (r : Repair). r .word) o) old) lost),
+      )
 
     module _ (z : found ≡ true) (room : count ≤ length ps) where
       repaired : hardStage c xs ≡ some (record { word = flippedAt (take count ps) xs; flips = count })
@@ -93,10 +92,9 @@ module _ (c : Code) (lawful : Lawful c) (first second : List ℕ) (tables : Root
           ∙ ap (λ (b : Bool). Option·map (λ (P : List ℕ). record { word = flippedAt P xs; flips = length P }) (positions b count ps)) z
           ∙ ap (λ (k : ℕ). some (record { word = flippedAt (take count ps) xs; flips = k })) (length-take-le count ps room)
 
-      pub found-flips : some count ≡ hardFlips c xs
-      unfolding hardFlips
-      found-flips = sym (ap (Option·map (λ (r : Repair). r .flips)) repaired)
-
-      pub found-written : (old : List ℕ) → flippedAt (take count ps) xs ≡ hardWritten c xs old
-      unfolding hardWritten
-      found-written old = sym (ap (λ (o : Option Repair). Option·getD (Option·map (λ (r : Repair). r .word) o) old) repaired)
+      pub found-answer : (old : List ℕ) → (some count ≡ hardFlips c xs) × (flippedAt (take count ps) xs ≡ hardWritten c xs old)
+      unfolding hardFlips hardWritten
+      found-answer old = (
+        sym (ap (Option·map (λ (r : Repair). r .flips)) repaired),
+        sym (ap (λ (o : Option Repair). Option·getD (Option·map (λ (r : Repair). r .word) o) old) repaired),
+      )

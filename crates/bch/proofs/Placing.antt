@@ -40,6 +40,7 @@ pub record Placed (n count : ℕ) (xs : List ℕ) : Type 0 where
 
 -- ---- the test of the sums
 
+-- three tests and one
 three : (p q r x : Bool) → (p ≡ true → q ≡ true → r ≡ true → x ≡ true) → (p ≡ false → x ≡ false) → (q ≡ false → x ≡ false) → (r ≡ false → x ≡ false)
     → p && q && r ≡ x
 three true true true x h a b c = sym (h refl refl refl)
@@ -50,6 +51,7 @@ three false q r x h a b c = sym (a refl)
 no-bool : {A : Type 0} → true ≡ false → A
 no-bool e = absurd (let z : _≡_ {A = ℕ} 0 1 = cc in omega arith)
 
+-- the parts of two packed numbers agree one by one where the numbers do
 module _ (a b c x y z : ℕ) (ha : a < 1024) (hb : b < 1024) (hx : x < 1024) (hy : y < 1024) where
   one-part : eqb a x && true && true ≡ eqb (packed a b c % 1024) (packed x y z % 1024)
   one-part =
@@ -141,18 +143,21 @@ rest-wrong m t n s acc P e = simp (xor-zero-r acc, ne-eqb (lowerPart t acc) (low
 
 -- ---- the loop's steps
 
+-- the first of what is left
 pub next : (xs : List ℕ) (count i : ℕ) → count ≤ length xs → i < count → drop i (take count xs) ≡ getD xs i 0 ∷ drop (i + 1) (take count xs)
 next xs count i l h =
     let k : i < length (take count xs) = omega (arith, length-take-le count xs l) in
     drop-cons (take count xs) i 0 k ∙ ap₂ (λ (x j : ℕ). x ∷ drop j (take count xs)) (getD-take count xs i 0 h) (sym (add-one i))
 
 module _ (m : ℕ) (g : Primitive m) (most : m ≤ 10) (t n s acc count i : ℕ) (xs ys : List ℕ) {r : Option (List ℕ)} (l : count ≤ length xs) where
+  -- an element beyond n, ..
   pub placed-stop : (p : ℕ) → i < count → p ≡ log m (getD xs i 0) → n ≤ p → rest m t n s acc (take i ys) (drop i (take count xs)) ≡ r → none ≡ r
   placed-stop p h q w old =
       let k : n ≤ log m (getD xs i 0) = rw q at w in
       sym (rest-stop m g most t n s acc (getD xs i 0) (take i ys) (drop (i + 1) (take count xs)) k)
       ∙ sym (ap (rest m t n s acc (take i ys)) (next xs count i l h)) ∙ old
 
+  -- .. one below it, ..
   pub placed-more : (p v : ℕ) → i < count → i < length ys → p ≡ log m (getD xs i 0) → p < n
       → v ≡ powersOf m p
       → rest m t n s acc (take i ys) (drop i (take count xs)) ≡ r → rest m t n s (bitXor acc v) (take (i + 1) (set ys i p)) (drop (i + 1) (take count xs)) ≡ r
@@ -166,11 +171,13 @@ module _ (m : ℕ) (g : Primitive m) (most : m ≤ 10) (t n s acc count i : ℕ)
       ∙ sym (rest-more m g most t n s acc x v (take i ys) (drop (i + 1) (take count xs)) k f)
       ∙ sym (ap (rest m t n s acc (take i ys)) (next xs count i l h)) ∙ old
 
+  -- .. and none left
   pub placed-end : i ≡ count → rest m t n s acc (take i ys) (drop i (take count xs)) ≡ r → rest m t n s acc (take count ys) [] ≡ r
   placed-end h old =
       let e : drop i (take count xs) ≡ [] = ap (λ (j : ℕ). drop j (take count xs)) (h ∙ sym (length-take-le count xs l)) ∙ drop-length (take count xs) in
       sym (ap₂ (λ (j : ℕ) (E : List ℕ). rest m t n s acc (take j ys) E) h e) ∙ old
 
+-- the places stay below n
 pub places-more : (n i p : ℕ) (ys : List ℕ) → i < length ys → p < n → ((k : ℕ) → k < i → getD ys k 0 < n) → (k : ℕ) → k < i + 1 → getD (set ys i p) k 0 < n
 places-more n i p ys h b old =
     below-more (λ (k : ℕ). getD (set ys i p) k 0 < n) i

@@ -19,12 +19,14 @@ use Rattle.bch.specs.Code.{powerSumFrom}
 use Rattle.bch.proofs.Entries.{below-at, below-drop}
 use Rattle.bch.proofs.SyndromeLaws.{powerSum-lt}
 
+-- a bit times a number, and times a packed one
 bit-mul : (b x : ℕ) → b < 2 → b * x ≤ x
 bit-mul b x h = bit-cases (λ (b : ℕ). b * x ≤ x) (omega arith) (omega arith) b h
 
 bit-packed : (b x y z : ℕ) → b < 2 → b * packed x y z ≡ packed (b * x) (b * y) (b * z)
 bit-packed b x y z h = bit-cases (λ (b : ℕ). b * packed x y z ≡ packed (b * x) (b * y) (b * z)) (omega arith) (omega arith) b h
 
+-- one position taken off a sum, ..
 sum-more : (m k i : ℕ) (bs : List ℕ) → i < length bs
     → powerSumFrom m k i (drop i bs) ≡ bitXor (getD bs i 0 * alpha m (k * i)) (powerSumFrom m k (i + 1) (drop (i + 1) bs))
 unfolding powerSumFrom
@@ -35,6 +37,7 @@ abbrev pub sums : ℕ → ℕ → List ℕ → ℕ
 sums m i bs = packed (powerSumFrom m 1 i bs) (powerSumFrom m 3 i bs) (powerSumFrom m 5 i bs)
 
 module _ (m : ℕ) (g : Primitive m) (most : m ≤ 10) (bs : List ℕ) (bits : Bits bs) where
+  -- .. and off all three
   sums-more : (i : ℕ) → i < length bs
       → sums m i (drop i bs) ≡ bitXor (getD bs i 0 * powersOf m i) (sums m (i + 1) (drop (i + 1) bs))
   sums-more i w =
@@ -52,6 +55,7 @@ module _ (m : ℕ) (g : Primitive m) (most : m ≤ 10) (bs : List ℕ) (bits : B
       → bitXor acc (sums m i (drop i bs)) ≡ s → bitXor (bitXor acc (b * e)) (sums m (i + 1) (drop (i + 1) bs)) ≡ s
   sums-acc i acc b e w hb he old = rw (hb, he) (xor-assoc acc _ _ ∙ sym (ap (bitXor acc) (sums-more i w)) ∙ old)
 
+-- at the end it is the syndromes
 pub sums-end : (m i acc : ℕ) (bs : List ℕ) {s : ℕ} → i ≡ length bs → bitXor acc (sums m i (drop i bs)) ≡ s → acc ≡ s
 unfolding powerSumFrom
 sums-end m i acc bs h old =

@@ -31,14 +31,16 @@ fn fill_quadratics(
     }
 }
 
-// w^3 / (w + 1).
+// w^3 / (w + 1), as w + v^2 + 1/v with v = w + 1.
 fn kappa_at(m: usize, period: usize, exps: &[u16], logs: &[u16], powers: &[u32], w: usize) -> usize
     requires { ⌜ FieldTables m (now exps) (now logs) (now powers) ⌝ }
-    requires { ⌜ (period ≡ 2 ^ m - 1) × (w < 2 ^ m) ⌝ }
+    requires { ⌜ (period ≡ 2 ^ m - 1) × (2 ≤ w) × (w < 2 ^ m) ⌝ }
     ensures { λ r. ⌜ (r ≡ kappaAt m w) × (r < 2 ^ m) ⌝ }
 {
-    let cube = field::cube(m, exps, logs, powers, w);
-    field::quotient(m, period, exps, logs, powers, cube, w ^ 1)
+    let l = field::log_of(m, exps, logs, powers, w ^ 1);
+    let square = field::power_of(m, exps, logs, powers, 2 * l);
+    let inverse = field::power_of(m, exps, logs, powers, period - l);
+    w ^ square ^ inverse
 }
 
 // Two solutions w of w^3 = k (w + 1), for every k that has them.

@@ -8,7 +8,7 @@ use borrow.Author.Tests.{not-true, not-false}
 use lib.ListN.{take, length}
 use Rattle.bch.specs.Words.{flippedAt}
 use Rattle.bch.specs.Code.{code}
-use Rattle.bch.proofs.HardAnswers.{parts-lt, lost-flips, lost-written, found-flips, found-written}
+use Rattle.bch.proofs.HardAnswers.{parts-lt, lost-answer, found-answer}
 use Rattle.receiver.specs.Answer.{hardOf}
 use Rattle.receiver.proofs.repair.decode_with.Statement.{statement}
 use Rattle.receiver.proofs.repair.decode_with.Tie as tie
@@ -35,10 +35,11 @@ returns c =
     let a = s .args in
     let p = s .pre .1 .1 in
     let f = c .before .locate in
-    let lost = not-true _ (c .if1 .taken) in (
-      ap inr (lost-flips (code (a .m) (a .t) (a .n)) (p .0 .0) (a .first .now) (a .second .now) (s .pre .1 .0) (a .bits .now) (p .1 .0) (p .1 .2) _ (c .before .before .syndromes .ensures) (f .result .found) (f .result .count) (f .result .at) (f .ensures .0) lost),
-      lost-written (code (a .m) (a .t) (a .n)) (p .0 .0) (a .first .now) (a .second .now) (s .pre .1 .0) (a .bits .now) (p .1 .0) (p .1 .2) _ (c .before .before .syndromes .ensures) (f .result .found) (f .result .count) (f .result .at) (f .ensures .0) lost (a .codeword .now),
-    )
+    let r = f .result in
+    let h =
+    lost-answer (code (a .m) (a .t) (a .n)) (p .0 .0) (a .first .now) (a .second .now) (s .pre .1 .0) (a .bits .now) (p .1 .0) (p .1 .2) _ (c .before .before .syndromes .ensures) (r .found) (r .count) (r .at) (f .ensures .0) (not-true _ (c .if1 .taken))
+    (a .codeword .now) in
+    (ap inr (h .0), h .1)
 
 copy-requires : tie.Need-copy-requires
 copy-requires c κs = search needs
@@ -60,15 +61,13 @@ returns-2 c =
     let s = c .before .before .before .before .before .before .before .before .before .before .before .before .before .before .before .before .before .before in
     let a = s .args in
     let p = s .pre .1 .1 in
-    let y = c .before .before .before .before .before .before .before .before .before .before .syndromes .ensures in
     let f = c .before .before .before .before .before .before .before .before .before .locate in
     let r = f .result in
-    let found = not-false _ (c .before .before .before .before .before .before .before .before .if1 .left) in
-    let room : r .count ≤ length (r .at) = omega (arith, f .ensures .1 .few, f .ensures .1 .long) in (
-      ap inr (found-flips (code (a .m) (a .t) (a .n)) (p .0 .0) (a .first .now) (a .second .now) (s .pre .1 .0) (a .bits .now) (p .1 .0) (p .1 .2) _ y (r .found) (r .count) (r .at) (f .ensures .0) found room),
-      c .before .before .flip-at .ensures ∙ ap (flippedAt (take (r .count) (r .at))) (c .before .before .before .before .before .before .copy .ensures)
-          ∙ found-written (code (a .m) (a .t) (a .n)) (p .0 .0) (a .first .now) (a .second .now) (s .pre .1 .0) (a .bits .now) (p .1 .0) (p .1 .2) _ y (r .found) (r .count) (r .at) (f .ensures .0) found room (a .codeword .now),
-    )
+    let room : r .count ≤ length (r .at) = omega (arith, f .ensures .1 .few, f .ensures .1 .long) in
+    let h =
+    found-answer (code (a .m) (a .t) (a .n)) (p .0 .0) (a .first .now) (a .second .now) (s .pre .1 .0) (a .bits .now) (p .1 .0) (p .1 .2) _ (c .before .before .before .before .before .before .before .before .before .before .syndromes .ensures) (r .found) (r .count) (r .at) (f .ensures .0) (not-false _ (c .before .before .before .before .before .before .before .before .if1 .left)) room
+    (a .codeword .now) in
+    (ap inr (h .0), c .before .before .flip-at .ensures ∙ ap (flippedAt (take (r .count) (r .at))) (c .before .before .before .before .before .before .copy .ensures) ∙ h .1)
 
 pub decode-with-spec : {M : Type 1} → statement M
 decode-with-spec =
