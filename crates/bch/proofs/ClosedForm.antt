@@ -1,7 +1,7 @@
 -- The hard stage in closed form: the positions to flip, from a word's syndromes and tables of solutions, without a search
 -- over the positions. Assumes nothing but what the tables that t needs are asked to be; and there are such tables.
 use Prim.Native.Nat.{ℕ}
-use mathlib.Core.Path.{_≡_, refl}
+use mathlib.Core.Path.{_≡_, refl, ap, ap₂, _∙_}
 use mathlib.Core.List.{List, [], _∷_, map}
 use mathlib.Core.Option.{Option, none, some, Option·map}
 use lib.ListN.{length}
@@ -25,6 +25,14 @@ pub record Tables (m t : ℕ) (quad first second : ℕ → ℕ) : Type 0 where
 unfoldable pub located : ℕ → ℕ → ℕ → (ℕ → ℕ) → (ℕ → ℕ) → (ℕ → ℕ) → ℕ → ℕ → ℕ → Option (List ℕ)
 unfolding attempted elements kappas
 located m t n quad first second s1 s3 s5 = attempted m t n s1 s3 s5 (elements m quad (kappas m first second) t s1 s3 s5)
+
+-- they are found from the elements
+pub located-from : (m t n : ℕ) (quad first second : ℕ → ℕ) (s1 s3 s5 x y z : ℕ) (E : List ℕ) {o : Option (List ℕ)} → o ≡ attempted m t n s1 s3 s5 E
+    → E ≡ elements m quad (kappas m first second) t x y z → x ≡ s1 → y ≡ s3 → z ≡ s5 → o ≡ located m t n quad first second s1 s3 s5
+unfolding located
+located-from m t n quad first second s1 s3 s5 x y z E h e hx hy hz =
+    let F : ℕ → ℕ → ℕ → List ℕ = elements m quad (kappas m first second) t in
+    h ∙ ap (attempted m t n s1 s3 s5) (e ∙ ap₂ (λ (a b : ℕ). F a b z) hx hy ∙ ap (F s1 s3) hz)
 
 module _ (c : Code) (isCode : Lawful c) (quad first second : ℕ → ℕ) (tables : Tables (c .m) (c .t) quad first second) (xs : List ℕ)
     (long : length xs ≡ wordLength c) (bits : Bits xs) where

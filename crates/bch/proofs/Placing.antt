@@ -4,6 +4,7 @@ use Prim.Native.Nat.{ℕ, zero, suc, _+_, _*_, _/_, _%_, _≤_, _<_}
 use native.Mathlib.Omega.{arith}
 use native.Mathlib.Numerals.{add-one}
 use mathlib.Core.Path.{_≡_, refl, ap, ap₂, sym, _∙_}
+use mathlib.Core.Logic.{_≢_}
 use mathlib.Core.Bool.{Bool, true, false, cond, _&&_, _||_}
 use mathlib.Core.List.{List, [], _∷_, _++_, map, append-nil, append-assoc}
 use mathlib.Core.Option.{Option, none, some}
@@ -101,7 +102,7 @@ module _ (m : ℕ) (g : Primitive m) (most : m ≤ 10) where
   sumAt-lt i (p ∷ P) = xor-lt 10 (alpha m (i * p)) (sumAt m i P) (element-lt m (alpha m (i * p)) most (alpha-lt m g (i * p))) (sumAt-lt i P)
 
   -- at first all is left
-  pub rest-all : (t n s : ℕ) (E : List ℕ) → 1 ≤ t → t ≤ 3
+  rest-all : (t n s : ℕ) (E : List ℕ) → 1 ≤ t → t ≤ 3
       → rest m t n s 0 [] E ≡ attempted m t n (s % 1024) (s / 1024 % 1024) (s / 1048576) E
   unfolding rest attempted isSummed
   rest-all t n s E l u =
@@ -113,12 +114,12 @@ module _ (m : ℕ) (g : Primitive m) (most : m ≤ 10) where
       (omega arith) t l u))
 
   -- a position beyond n ends it, ..
-  pub rest-stop : (t n s acc x : ℕ) (P E : List ℕ) → n ≤ log m x → rest m t n s acc P (x ∷ E) ≡ none
+  rest-stop : (t n s acc x : ℕ) (P E : List ℕ) → n ≤ log m x → rest m t n s acc P (x ∷ E) ≡ none
   unfolding rest isBelow when
   rest-stop t n s acc x P E h = simp (le-ltb (log m x) n h)
 
   -- .. and one below it is placed
-  pub rest-more : (t n s acc x v : ℕ) (P E : List ℕ) → log m x < n → v ≡ powersOf m (log m x)
+  rest-more : (t n s acc x v : ℕ) (P E : List ℕ) → log m x < n → v ≡ powersOf m (log m x)
       → rest m t n s acc P (x ∷ E) ≡ rest m t n s (bitXor acc v) (P ++ (log m x ∷ [])) E
   unfolding rest isBelow sumAt
   rest-more t n s acc x v P E h q =
@@ -133,11 +134,11 @@ module _ (m : ℕ) (g : Primitive m) (most : m ≤ 10) where
       ∙ ap₂ (λ (w : ℕ) (l : List ℕ). when (isBelow n Q && eqb (lowerPart t w) (lowerPart t s)) l) f (sym (append-assoc P (p ∷ []) Q))
 
 -- at the end the sum decides
-pub rest-right : (m t n s acc : ℕ) (P : List ℕ) → lowerPart t acc ≡ lowerPart t s → rest m t n s acc P [] ≡ some P
+rest-right : (m t n s acc : ℕ) (P : List ℕ) → lowerPart t acc ≡ lowerPart t s → rest m t n s acc P [] ≡ some P
 unfolding rest isBelow when sumAt
 rest-right m t n s acc P e = simp (xor-zero-r acc, eq-eqb (lowerPart t acc) (lowerPart t s) e, append-nil)
 
-pub rest-wrong : (m t n s acc : ℕ) (P : List ℕ) → (lowerPart t acc ≡ lowerPart t s → ⊥) → rest m t n s acc P [] ≡ none
+rest-wrong : (m t n s acc : ℕ) (P : List ℕ) → lowerPart t acc ≢ lowerPart t s → rest m t n s acc P [] ≡ none
 unfolding rest isBelow when sumAt
 rest-wrong m t n s acc P e = simp (xor-zero-r acc, ne-eqb (lowerPart t acc) (lowerPart t s) e)
 
@@ -151,7 +152,7 @@ next xs count i l h =
 
 module _ (m : ℕ) (g : Primitive m) (most : m ≤ 10) (t n s acc count i : ℕ) (xs ys : List ℕ) {r : Option (List ℕ)} (l : count ≤ length xs) where
   -- an element beyond n, ..
-  pub placed-stop : (p : ℕ) → i < count → p ≡ log m (getD xs i 0) → n ≤ p → rest m t n s acc (take i ys) (drop i (take count xs)) ≡ r → none ≡ r
+  placed-stop : (p : ℕ) → i < count → p ≡ log m (getD xs i 0) → n ≤ p → rest m t n s acc (take i ys) (drop i (take count xs)) ≡ r → none ≡ r
   placed-stop p h q w old =
       let k : n ≤ log m (getD xs i 0) = rw q at w in
       sym (rest-stop m g most t n s acc (getD xs i 0) (take i ys) (drop (i + 1) (take count xs)) k)
@@ -172,10 +173,39 @@ module _ (m : ℕ) (g : Primitive m) (most : m ≤ 10) (t n s acc count i : ℕ)
       ∙ sym (ap (rest m t n s acc (take i ys)) (next xs count i l h)) ∙ old
 
   -- .. and none left
-  pub placed-end : i ≡ count → rest m t n s acc (take i ys) (drop i (take count xs)) ≡ r → rest m t n s acc (take count ys) [] ≡ r
+  placed-end : i ≡ count → rest m t n s acc (take i ys) (drop i (take count xs)) ≡ r → rest m t n s acc (take count ys) [] ≡ r
   placed-end h old =
       let e : drop i (take count xs) ≡ [] = ap (λ (j : ℕ). drop j (take count xs)) (h ∙ sym (length-take-le count xs l)) ∙ drop-length (take count xs) in
       sym (ap₂ (λ (j : ℕ) (E : List ℕ). rest m t n s acc (take j ys) E) h e) ∙ old
+
+-- ---- what is answered
+
+module _ (m : ℕ) (g : Primitive m) (most : m ≤ 10) (t n s count : ℕ) (xs : List ℕ) (l : count ≤ length xs) (least : 1 ≤ t) (few : t ≤ 3) (acc i : ℕ)
+    (ys : List ℕ) (old : rest m t n s acc (take i ys) (drop i (take count xs)) ≡ rest m t n s 0 [] (take count xs)) where
+  abbrev Answer : Option (List ℕ) → Type 0
+  Answer o = o ≡ attempted m t n (s % 1024) (s / 1024 % 1024) (s / 1048576) (take count xs)
+
+  all : rest m t n s 0 [] (take count xs) ≡ attempted m t n (s % 1024) (s / 1024 % 1024) (s / 1048576) (take count xs)
+  all = rest-all m g most t n s (take count xs) least few
+
+  nothing : (found : Bool) (k : ℕ) (ps : List ℕ) → found ≡ false → positions found k ps ≡ none
+  unfolding positions
+  nothing found k ps z = ap (λ (b : Bool). positions b k ps) z
+
+  -- nothing where an element is beyond n, ..
+  pub stopped : (found : Bool) (k : ℕ) (ps : List ℕ) → found ≡ false → (p : ℕ) → i < count → p ≡ log m (getD xs i 0) → n ≤ p → Answer (positions found k ps)
+  stopped found k ps z p h q w = nothing found k ps z ∙ placed-stop m g most t n s acc count i xs ys l p h q w old ∙ all
+
+  -- .. or where the sum is wrong, ..
+  pub ended-wrong : (found : Bool) (k : ℕ) (ps : List ℕ) → found ≡ false → i ≡ count → lowerPart t acc ≢ lowerPart t s → Answer (positions found k ps)
+  ended-wrong found k ps z h wrong =
+      nothing found k ps z ∙ sym (rest-wrong m t n s acc (take count ys) wrong) ∙ placed-end m g most t n s acc count i xs ys l h old ∙ all
+
+  -- .. and otherwise all that is placed
+  pub ended-right : i ≡ count → lowerPart t acc ≡ lowerPart t s → Answer (positions true count ys)
+  unfolding positions
+  ended-right h right =
+      sym (rest-right m t n s acc (take count ys) right) ∙ placed-end m g most t n s acc count i xs ys l h old ∙ all
 
 -- the places stay below n
 pub places-more : (n i p : ℕ) (ys : List ℕ) → i < length ys → p < n → ((k : ℕ) → k < i → getD ys k 0 < n) → (k : ℕ) → k < i + 1 → getD (set ys i p) k 0 < n

@@ -1,13 +1,7 @@
 -- The positions of the elements that the syndromes give. Assumes nothing.
-use Prim.Native.Nat.{ℕ, _%_, _/_}
-use mathlib.Core.Path.{ap, _∙_, ap₂}
-use mathlib.Core.List.{List}
 use borrow.Author.Needs.{needs}
-use Rattle.bch.proofs.Elements.{elements as Elements·elements}
-use Rattle.bch.proofs.KappaDecoder.{kappas}
 use Rattle.bch.proofs.RootTables.{at}
-use Rattle.bch.proofs.ClosedForm.{located}
-use Rattle.bch.proofs.Decoder.{attempted}
+use Rattle.bch.proofs.ClosedForm.{located-from}
 use Rattle.receiver.proofs.locate.locate.Statement.{statement}
 use Rattle.receiver.proofs.locate.locate.Tie as tie
 
@@ -30,16 +24,12 @@ place-requires : tie.Need-place-requires
 place-requires c κs = search needs
 
 returns : tie.Need-returns
-unfolding located
 returns c =
-    let a = c .before .before .before .before .before .before .before .before .before .before .args in
-    let E : ℕ → ℕ → ℕ → List ℕ =
-    Elements·elements (a .m) (at (a .first .now)) (kappas (a .m) (at (a .first .now)) (at (a .second .now))) (a .t) in
-    let e =
-    c .before .elements-of .ensures .are
-    ∙ ap₂ (λ (x y : ℕ). E x y (c .before .before .index3 .result)) (c .before .before .before .before .index .ensures) (c .before .before .before .index2 .ensures)
-    ∙ ap (E (a .s % 1024) (a .s / 1024 % 1024)) (c .before .before .index3 .ensures) in
-    (c .place .ensures .0 ∙ ap (attempted (a .m) (a .t) (a .n) (a .s % 1024) (a .s / 1024 % 1024) (a .s / 1048576)) e, c .place .ensures .1)
+    let a = c .before .before .before .before .before .before .before .before .before .before .args in (
+      located-from (a .m) (a .t) (a .n) (at (a .first .now)) (at (a .first .now)) (at (a .second .now)) _ _ _ _ _ _ _ (c .place .ensures .0)
+          (c .before .elements-of .ensures .are) (c .before .before .before .before .index .ensures) (c .before .before .before .index2 .ensures) (c .before .before .index3 .ensures),
+      c .place .ensures .1,
+    )
 
 pub locate-spec : {M : Type 1} → statement M
 locate-spec =

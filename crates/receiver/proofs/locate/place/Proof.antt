@@ -8,7 +8,7 @@ use borrow.Author.Needs.{needs}
 use lib.ListN.{length, getD, take, drop, length-set}
 use Rattle.galois.proofs.FieldTables.{primitive-tables}
 use Rattle.bch.proofs.RootTables.{at}
-use Rattle.bch.proofs.Placing.{lowerPart, positions, rest, rest-all, rest-right, rest-wrong, placed-stop, placed-more, placed-end, places-more}
+use Rattle.bch.proofs.Placing.{lowerPart, rest, placed-more, places-more, stopped, ended-wrong, ended-right}
 use Rattle.receiver.proofs.locate.place.Statement.{statement}
 use Rattle.receiver.proofs.locate.place.Tie as tie
 
@@ -38,16 +38,14 @@ lost-requires : tie.Need-lost-requires Inv-loop μ-loop
 lost-requires c κs = search needs
 
 returns : tie.Need-returns Inv-loop μ-loop
-unfolding positions
 returns c =
     let s = c .before .before .before .before .before .before .before .before .before in
     let a = s .args in
     let f = s .pre .0 in
     let l = c .before .before .before .before .loop in
-    let g = primitive-tables _ _ _ _ f in (
-      simp (c .lost .ensures .0)
-          (placed-stop (a .m) g (f .most) (a .t) (a .n) (a .s) (l .acc) (a .e .count) (l .i) (a .e .at) (l .at) (omega arith) _ (omega arith) (c .before .before .log-of .ensures .0) (c .before .if1 .taken) (l .inv .2)
-          ∙ rest-all (a .m) g (f .most) (a .t) (a .n) (a .s) (take (a .e .count) (a .e .at)) (s .pre .1 .0) (s .pre .1 .1)),
+    let g = primitive-tables _ _ _ _ f in
+    let r = c .lost .result in (
+      stopped (a .m) g (f .most) (a .t) (a .n) (a .s) (a .e .count) (a .e .at) (omega arith) (s .pre .1 .0) (s .pre .1 .1) (l .acc) (l .i) (l .at) (l .inv .2) (r .found) (r .count) (r .at) (c .lost .ensures .0) _ (omega arith) (c .before .before .log-of .ensures .0) (c .before .if1 .taken),
       record { few = omega arith; long = c .lost .ensures .2; inside = λ k h. absurd (omega (arith, c .lost .ensures .1)) },
     )
 
@@ -93,33 +91,27 @@ lost-requires-2 : tie.Need-lost-requires-2 Inv-loop μ-loop
 lost-requires-2 c κs = search needs
 
 returns-2 : tie.Need-returns-2 Inv-loop μ-loop
-unfolding positions
 returns-2 c =
     let s = c .before .before .before .before .before .before .before .before .before .before in
     let a = s .args in
     let f = s .pre .0 in
     let l = c .before .before .before .before .before .loop in
     let g = primitive-tables _ _ _ _ f in
-    let end = placed-end (a .m) g (f .most) (a .t) (a .n) (a .s) (l .acc) (a .e .count) (l .i) (a .e .at) (l .at) (omega arith) (omega arith) (l .inv .2) in
+    let r = c .lost2 .result in
     let wrong : lowerPart (a .t) (l .acc) ≢ lowerPart (a .t) (a .s) = λ e. c .before .if2 .taken (c .before .before .before .part .ensures ∙ e ∙ sym (c .before .before .part2 .ensures)) in (
-      simp (c .lost2 .ensures .0)
-          (sym (rest-wrong (a .m) (a .t) (a .n) (a .s) (l .acc) (take (a .e .count) (l .at)) wrong) ∙ end
-          ∙ rest-all (a .m) g (f .most) (a .t) (a .n) (a .s) (take (a .e .count) (a .e .at)) (s .pre .1 .0) (s .pre .1 .1)),
+      ended-wrong (a .m) g (f .most) (a .t) (a .n) (a .s) (a .e .count) (a .e .at) (omega arith) (s .pre .1 .0) (s .pre .1 .1) (l .acc) (l .i) (l .at) (l .inv .2) (r .found) (r .count) (r .at) (c .lost2 .ensures .0) (omega arith) wrong,
       record { few = omega arith; long = c .lost2 .ensures .2; inside = λ k h. absurd (omega (arith, c .lost2 .ensures .1)) },
     )
 
 returns-3 : tie.Need-returns-3 Inv-loop μ-loop
-unfolding positions
 returns-3 c =
     let s = c .before .before .before .before .before .before .before .before .before in
     let a = s .args in
     let f = s .pre .0 in
     let l = c .before .before .before .before .loop in
     let g = primitive-tables _ _ _ _ f in
-    let end = placed-end (a .m) g (f .most) (a .t) (a .n) (a .s) (l .acc) (a .e .count) (l .i) (a .e .at) (l .at) (omega arith) (omega arith) (l .inv .2) in
     let right : lowerPart (a .t) (l .acc) ≡ lowerPart (a .t) (a .s) = sym (c .before .before .part .ensures) ∙ c .if2 .left ∙ c .before .part2 .ensures in (
-      sym (rest-right (a .m) (a .t) (a .n) (a .s) (l .acc) (take (a .e .count) (l .at)) right) ∙ end
-          ∙ rest-all (a .m) g (f .most) (a .t) (a .n) (a .s) (take (a .e .count) (a .e .at)) (s .pre .1 .0) (s .pre .1 .1),
+      ended-right (a .m) g (f .most) (a .t) (a .n) (a .s) (a .e .count) (a .e .at) (omega arith) (s .pre .1 .0) (s .pre .1 .1) (l .acc) (l .i) (l .at) (l .inv .2) (omega arith) right,
       record { few = omega arith; long = l .inv .1; inside = λ k h. l .inv .3 k (omega arith) },
     )
 
