@@ -13,7 +13,9 @@ returns c =
     (cube-zero _ _ _ _ (s .pre .0) (s .args .a) (c .if1 .taken), search needs)
 
 log-of-requires : tie.Need-log-of-requires
-log-of-requires c κs = search needs
+log-of-requires c κs =
+    let s = c .before .before .before .before in
+    (s .pre .0, s .pre .1)
 
 mul-index : tie.Need-mul-index
 mul-index c = search needs

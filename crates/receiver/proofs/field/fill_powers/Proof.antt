@@ -39,7 +39,10 @@ back-requires-2 : tie.Need-back-requires-2 Inv-loop μ-loop
 back-requires-2 c κs = search needs
 
 pack-requires : tie.Need-pack-requires Inv-loop μ-loop
-pack-requires c κs = search needs
+pack-requires c κs =
+    let s = c .before .before .before .before .before .before in
+    let p = s .pre .0 in
+    ((p .0, p .1, p .5, omega arith, omega arith, omega arith), s .pre .1)
 
 mul-powers : tie.Need-mul-powers Inv-loop μ-loop
 mul-powers c = search needs

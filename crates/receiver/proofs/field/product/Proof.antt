@@ -19,10 +19,14 @@ returns-2 c =
     (rw (c .if2 .taken) (sym (mul-zero-r (s .args .m) (primitive-tables _ _ _ _ (s .pre .0)) (s .args .a))), search needs)
 
 log-of-requires : tie.Need-log-of-requires
-log-of-requires c κs = search needs
+log-of-requires c κs =
+    let s = c .before .before .before .before .before in
+    (s .pre .0, s .pre .1 .0)
 
 log-of-requires-2 : tie.Need-log-of-requires-2
-log-of-requires-2 c κs = search needs
+log-of-requires-2 c κs =
+    let s = c .before .before .before .before .before .before in
+    (s .pre .0, s .pre .1 .1)
 
 add-e : tie.Need-add-e
 add-e c = search needs

@@ -13,10 +13,14 @@ returns c =
     (rw (c .if1 .taken) (sym (over-zero (s .args .m) (s .args .b))), search needs)
 
 log-of-requires : tie.Need-log-of-requires
-log-of-requires c κs = search needs
+log-of-requires c κs =
+    let s = c .before .before .before .before in
+    (s .pre .0, s .pre .1 .1)
 
 log-of-requires-2 : tie.Need-log-of-requires-2
-log-of-requires-2 c κs = search needs
+log-of-requires-2 c κs =
+    let s = c .before .before .before .before .before in
+    (s .pre .0, s .pre .1 .2)
 
 sub-e : tie.Need-sub-e
 sub-e c = search needs

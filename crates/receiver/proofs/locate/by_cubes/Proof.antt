@@ -1,4 +1,5 @@
 -- Three elements, from the cube roots of D2. Assumes nothing.
+use native.Mathlib.Omega.{arith}
 use borrow.Author.Needs.{needs}
 use Rattle.bch.proofs.ElementLists.{listed-as, cubes-none, cubes-odd, cubes-three}
 use Rattle.receiver.proofs.locate.by_cubes.Statement.{statement}
@@ -14,7 +15,9 @@ returns c =
     listed-as _ _ _ _ _ (cubes-none (a .m) (a .s1) (a .d2) (a .period) (s .pre .1 .0) (c .before .if1 .taken)) (c .none .ensures .1)
 
 log-of-requires : tie.Need-log-of-requires
-log-of-requires c κs = search needs
+log-of-requires c κs =
+    let s = c .before .before .before .before in
+    (s .pre .0, s .pre .1 .2)
 
 none-requires-2 : tie.Need-none-requires-2
 none-requires-2 c κs = search needs
@@ -28,16 +31,22 @@ returns-2 c =
     (c .none2 .ensures .1)
 
 power-of-requires : tie.Need-power-of-requires
-power-of-requires c κs = search needs
+power-of-requires c κs =
+    let s = c .before .before .before .before .before .before in
+    (s .pre .0, omega arith)
 
 add-power-of : tie.Need-add-power-of
 add-power-of c = search needs
 
 power-of-requires-2 : tie.Need-power-of-requires-2
-power-of-requires-2 c κs = search needs
+power-of-requires-2 c κs =
+    let s = c .before .before .before .before .before .before .before in
+    (s .pre .0, omega arith)
 
 trio-requires : tie.Need-trio-requires
-trio-requires c κs = search needs
+trio-requires c κs =
+    let s = c .before .before .before .before .before .before .before .before in
+    (s .pre .1 .1, c .before .power-of .ensures .1, c .power-of2 .ensures .1)
 
 returns-3 : tie.Need-returns-3
 returns-3 c =

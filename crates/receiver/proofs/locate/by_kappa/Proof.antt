@@ -1,4 +1,5 @@
 -- Two or three elements, from the tables of κ. Assumes nothing.
+use native.Mathlib.Omega.{arith}
 use Prim.Native.Nat.{ℕ}
 use mathlib.Core.Path.{ap, _∙_, ap₂}
 use borrow.Author.Needs.{needs}
@@ -9,16 +10,24 @@ use Rattle.receiver.proofs.locate.by_kappa.Statement.{statement}
 use Rattle.receiver.proofs.locate.by_kappa.Tie as tie
 
 cube-requires : tie.Need-cube-requires
-cube-requires c κs = search needs
+cube-requires c κs =
+    let s = c .before .before .before .before .before in
+    (s .pre .0, s .pre .1 .0 .3)
 
 fifth-requires : tie.Need-fifth-requires
-fifth-requires c κs = search needs
+fifth-requires c κs =
+    let s = c .before .before .before .before .before .before in
+    (s .pre .0, s .pre .1 .0 .2)
 
 quotient-requires : tie.Need-quotient-requires
-quotient-requires c κs = search needs
+quotient-requires c κs =
+    let s = c .before .before .before .before .before .before .before in
+    (s .pre .0, (s .pre .1 .0 .0, c .before .cube .ensures .1, c .fifth .ensures .1))
 
 entry-requires : tie.Need-entry-requires
-entry-requires c κs = search needs
+entry-requires c κs =
+    let s = c .before .before .before .before .before .before .before .before in
+    omega (arith, c .quotient .ensures .1, s .pre .1 .1 .1)
 
 none-requires : tie.Need-none-requires
 none-requires c κs = search needs
@@ -32,10 +41,14 @@ returns c =
     (c .none .ensures .1)
 
 entry-requires-2 : tie.Need-entry-requires-2
-entry-requires-2 c κs = search needs
+entry-requires-2 c κs =
+    let s = c .before .before .before .before .before .before .before .before .before .before in
+    omega (arith, c .before .before .quotient .ensures .1, s .pre .1 .1 .0)
 
 product-requires : tie.Need-product-requires
-product-requires c κs = search needs
+product-requires c κs =
+    let s = c .before .before .before .before .before .before .before .before .before .before .before in
+    (s .pre .0, (s .pre .1 .0 .2, s .pre .1 .0 .2))
 
 quotient-requires-2 : tie.Need-quotient-requires-2
 quotient-requires-2 c κs =

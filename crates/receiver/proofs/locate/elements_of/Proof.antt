@@ -2,7 +2,6 @@
 use Prim.Native.Nat.{ℕ}
 use native.Mathlib.Omega.{arith}
 use mathlib.Core.Path.{_≡_, ap}
-use borrow.Author.Needs.{needs}
 use lib.Bits.{bitXor, xor-lt}
 use Rattle.bch.proofs.RootTables.{at}
 use Rattle.bch.proofs.ElementLists.{listed-as, all-one, all-flat, all-two, all-cubes, all-kappa}
@@ -10,7 +9,9 @@ use Rattle.receiver.proofs.locate.elements_of.Statement.{statement}
 use Rattle.receiver.proofs.locate.elements_of.Tie as tie
 
 single-requires : tie.Need-single-requires
-single-requires c κs = search needs
+single-requires c κs =
+    let s = c .before .before .before .before .before .before in
+    s .pre .1 .1 .3
 
 returns : tie.Need-returns
 returns c =
@@ -18,10 +19,14 @@ returns c =
     listed-as _ _ _ _ _ (all-one (a .m) (at (a .first .now)) (at (a .first .now)) (at (a .second .now)) (a .s1) (a .s3) (a .s5) (a .t) (c .before .if1 .taken)) (c .single .ensures)
 
 cube-requires : tie.Need-cube-requires
-cube-requires c κs = search needs
+cube-requires c κs =
+    let s = c .before .before .before .before .before .before in
+    (s .pre .0, s .pre .1 .1 .3)
 
 single-requires-2 : tie.Need-single-requires-2
-single-requires-2 c κs = search needs
+single-requires-2 c κs =
+    let s = c .before .before .before .before .before .before .before .before in
+    s .pre .1 .1 .3
 
 returns-2 : tie.Need-returns-2
 returns-2 c =
@@ -45,7 +50,9 @@ returns-3 c =
     listed-as _ _ _ _ _ (all-two (a .m) (at (a .first .now)) (at (a .first .now)) (at (a .second .now)) (a .s1) (a .s3) (a .s5) (a .t) _ (c .before .if3 .taken) d (c .before .before .if2 .left)) (c .pair .ensures)
 
 fifth-requires : tie.Need-fifth-requires
-fifth-requires c κs = search needs
+fifth-requires c κs =
+    let s = c .before .before .before .before .before .before .before .before .before in
+    (s .pre .0, s .pre .1 .1 .3)
 
 by-cubes-requires : tie.Need-by-cubes-requires
 by-cubes-requires c κs =

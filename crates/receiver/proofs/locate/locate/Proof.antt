@@ -21,7 +21,11 @@ elements-of-requires c κs =
     (s .pre .0, (s .pre .1 .0, (p .0, p .1, p .2, rw (c .before .before .index .ensures) (p .4), rw (c .before .index2 .ensures) (p .5), rw (c .index3 .ensures) (p .6))))
 
 place-requires : tie.Need-place-requires
-place-requires c κs = search needs
+place-requires c κs =
+    let s = c .before .before .before .before .before .before .before .before .before in
+    let p = s .pre .1 .1 in
+    let e = c .elements-of .ensures in
+    (s .pre .0, (p .1, p .2, p .3, e .few, e .long, e .entries))
 
 returns : tie.Need-returns
 returns c =

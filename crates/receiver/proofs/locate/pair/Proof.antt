@@ -20,13 +20,19 @@ returns c =
     listed-as _ _ _ _ _ (pair-zero (a .m) (at (a .quad .now)) (a .s1) (a .d2) (c .before .if1 .taken)) (c .none .ensures .1)
 
 cube-requires : tie.Need-cube-requires
-cube-requires c κs = search needs
+cube-requires c κs =
+    let s = c .before .before .before .before .before in
+    (s .pre .0, s .pre .1 .1)
 
 quotient-requires : tie.Need-quotient-requires
-quotient-requires c κs = search needs
+quotient-requires c κs =
+    let s = c .before .before .before .before .before .before in
+    (s .pre .0, (s .pre .1 .0, s .pre .1 .2, c .cube .ensures .1))
 
 entry-requires : tie.Need-entry-requires
-entry-requires c κs = search needs
+entry-requires c κs =
+    let s = c .before .before .before .before .before .before .before in
+    omega (arith, c .quotient .ensures .1, s .pre .1 .3)
 
 product-requires : tie.Need-product-requires
 product-requires c κs =

@@ -1,7 +1,7 @@
 -- What is placed and what is left to place are the positions. Assumes nothing.
 use Prim.Native.Nat.{ℕ, _-_, _≤_, _<_}
 use native.Mathlib.Omega.{arith}
-use mathlib.Core.Path.{_≡_, sym, _∙_}
+use mathlib.Core.Path.{refl, _≡_, sym, _∙_}
 use mathlib.Core.Logic.{_≢_}
 use mathlib.Core.List.{[]}
 use borrow.Author.Needs.{needs}
@@ -21,13 +21,13 @@ abbrev μ-loop : tie.MeasureT-loop
 μ-loop m t n exps logs powers s xs count at₀ acc₀ i₀ at acc i = count - i
 
 loop-holds : tie.Need-loop-holds Inv-loop μ-loop
-loop-holds c = search needs
+loop-holds c = (omega arith, refl, refl, λ k h. absurd (omega arith))
 
 mul-log-of : tie.Need-mul-log-of Inv-loop μ-loop
-mul-log-of c = search needs
+mul-log-of c = omega arith
 
 array-read-log-of : tie.Need-array-read-log-of Inv-loop μ-loop
-array-read-log-of c = search needs
+array-read-log-of c = omega arith
 
 log-of-requires : tie.Need-log-of-requires Inv-loop μ-loop
 log-of-requires c κs =
@@ -50,22 +50,22 @@ returns c =
     )
 
 mul-at : tie.Need-mul-at Inv-loop μ-loop
-mul-at c = search needs
+mul-at c = omega arith
 
 array-write-at : tie.Need-array-write-at Inv-loop μ-loop
-array-write-at c = search needs
+array-write-at c = omega arith
 
 mul-acc : tie.Need-mul-acc Inv-loop μ-loop
-mul-acc c = search needs
+mul-acc c = omega arith
 
 shared-slice-read-acc : tie.Need-shared-slice-read-acc Inv-loop μ-loop
-shared-slice-read-acc c = search needs
+shared-slice-read-acc c = omega arith
 
 add-i : tie.Need-add-i Inv-loop μ-loop
-add-i c = search needs
+add-i c = omega arith
 
 loop-less : tie.Need-loop-less Inv-loop μ-loop
-loop-less c = search needs
+loop-less c = omega arith
 
 loop-again : tie.Need-loop-again Inv-loop μ-loop
 loop-again c =
@@ -82,10 +82,14 @@ loop-again c =
     )
 
 part-requires : tie.Need-part-requires Inv-loop μ-loop
-part-requires c κs = search needs
+part-requires c κs =
+    let s = c .before .before .before .before .before .before in
+    (s .pre .1 .0, s .pre .1 .1)
 
 part-requires-2 : tie.Need-part-requires-2 Inv-loop μ-loop
-part-requires-2 c κs = search needs
+part-requires-2 c κs =
+    let s = c .before .before .before .before .before .before .before in
+    (s .pre .1 .0, s .pre .1 .1)
 
 lost-requires-2 : tie.Need-lost-requires-2 Inv-loop μ-loop
 lost-requires-2 c κs = search needs

@@ -1,7 +1,7 @@
 -- What is located for the syndromes is the hard stage's answer. Assumes nothing.
 use Prim.Native.Nat.{_≤_}
 use native.Mathlib.Omega.{arith}
-use mathlib.Core.Path.{ap, _∙_}
+use mathlib.Core.Path.{sym, ap, _∙_}
 use mathlib.Core.Logic.{inr}
 use borrow.Author.Needs.{needs}
 use borrow.Author.Tests.{not-true, not-false}
@@ -42,7 +42,9 @@ returns c =
     (ap inr (h .0), h .1)
 
 copy-requires : tie.Need-copy-requires
-copy-requires c κs = search needs
+copy-requires c κs =
+    let s = c .before .before .before .before .before .before .before .before .before .before .before in
+    s .pre .1 .1 .1 .1 ∙ sym (s .pre .1 .1 .1 .0)
 
 flip-at-requires : tie.Need-flip-at-requires
 flip-at-requires c κs =

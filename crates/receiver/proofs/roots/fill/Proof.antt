@@ -7,7 +7,10 @@ use Rattle.receiver.proofs.roots.fill.Statement.{statement}
 use Rattle.receiver.proofs.roots.fill.Tie as tie
 
 fill-quadratics-requires : tie.Need-fill-quadratics-requires
-fill-quadratics-requires c κs = search needs
+fill-quadratics-requires c κs =
+    let s = c .before .before .before .before .before .before .before in
+    let p = s .pre .1 in
+    (s .pre .0, (p .0, p .1, p .3))
 
 same-length : tie.Need-same-length
 same-length c = search needs
@@ -20,7 +23,9 @@ returns c =
     roots-two (s .args .m) (s .args .t) _ _ (omega (arith, q .1)) y (c .before .before .before .before .if1 .taken) (q .0 .0) (q .0 .1) z
 
 fill-kappas-requires : tie.Need-fill-kappas-requires
-fill-kappas-requires c κs = search needs
+fill-kappas-requires c κs =
+    let s = c .before .before .before .before .before .before .before .before .before in
+    (s .pre .0, s .pre .1)
 
 same-length-2 : tie.Need-same-length-2
 same-length-2 c = search needs

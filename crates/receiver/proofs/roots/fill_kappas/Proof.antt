@@ -28,7 +28,9 @@ loop-holds c =
     (omega arith, omega (arith, s .pre .0 .size-least), refl, refl, filled-none m _ _ (λ k h. x k) (λ k h. y k), zeros-entries m (s .args .first .now) x, zeros-entries m (s .args .second .now) y)
 
 kappa-at-requires : tie.Need-kappa-at-requires Inv-loop μ-loop
-kappa-at-requires c κs = search needs
+kappa-at-requires c κs =
+    let s = c .before .before .before .before .before .before .before in
+    (s .pre .0, (s .pre .1 .0, c .before .loop .inv .0, omega arith))
 
 mul-if1 : tie.Need-mul-if1 Inv-loop μ-loop
 mul-if1 c = search needs

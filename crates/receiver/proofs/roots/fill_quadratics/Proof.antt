@@ -23,7 +23,10 @@ loop-holds c =
     (omega arith, refl, refl, λ u h. absurd (omega arith), zeros-entries (s .args .m) (s .args .first .now) (s .pre .1 .2))
 
 product-requires : tie.Need-product-requires Inv-loop μ-loop
-product-requires c κs = search needs
+product-requires c κs =
+    let s = c .before .before .before .before .before .before in
+    let h : c .before .loop .w < 2 ^ s .args .m = omega arith in
+    (s .pre .0, (h, h))
 
 narrow-requires : tie.Need-narrow-requires Inv-loop μ-loop
 narrow-requires c κs = search needs
