@@ -1,5 +1,4 @@
-// What the test programs share: text, numbers, bits and refusals on standard output, and the
-// comparison of words.
+// What the test programs share: text, numbers, bits and refusals on standard output.
 use libc::STDOUT_FILENO;
 use refusal::Refusal;
 
@@ -38,27 +37,4 @@ pub fn refused(refusal: Refusal) {
     number(refusal.number);
     text(b" ");
     number(refusal.place);
-}
-
-// Whether the two are as long as each other and equal in each byte.
-pub fn is_same(one: &[u8], other: &[u8]) -> bool {
-    if one.len() != other.len() {
-        return false;
-    }
-    differences(one, other) == 0
-}
-
-// How many positions differ between two words of one length.
-pub fn differences(one: &[u8], other: &[u8]) -> usize {
-    let mut sum = 0;
-    let mut i = 0;
-    while i < one.len() {
-        if i < other.len() {
-            if one[i] != other[i] {
-                sum += 1;
-            }
-        }
-        i += 1;
-    }
-    sum
 }

@@ -12,6 +12,29 @@ pub enum Answer {
 // The byte that fills a buffer before a call.
 const FILL: u8 = 7;
 
+// Whether the two are as long as each other and equal in each byte.
+fn is_same(one: &[u8], other: &[u8]) -> bool {
+    if one.len() != other.len() {
+        return false;
+    }
+    differences(one, other) == 0
+}
+
+// How many positions differ between two words of one length.
+fn differences(one: &[u8], other: &[u8]) -> usize {
+    let mut sum = 0;
+    let mut i = 0;
+    while i < one.len() {
+        if i < other.len() {
+            if one[i] != other[i] {
+                sum += 1;
+            }
+        }
+        i += 1;
+    }
+    sum
+}
+
 // Whether the word is the codeword of its own message, which stands from position m·t on.
 fn is_codeword(m: usize, t: usize, word: &[u8], again: &mut [u8]) -> bool {
     if 8 < m {
@@ -31,7 +54,7 @@ fn is_codeword(m: usize, t: usize, word: &[u8], again: &mut [u8]) -> bool {
         }
         encoder::Encoded::Written => {}
     }
-    test_lines::is_same(again, word)
+    is_same(again, word)
 }
 
 // Whether a found word is Linux's, which is read into `again`, differs from the received bits in
@@ -49,10 +72,10 @@ fn is_found(
     if decoded.len() != codeword.len() {
         return false;
     }
-    if !test_lines::is_same(codeword, again) {
+    if !is_same(codeword, again) {
         return false;
     }
-    if test_lines::differences(codeword, bits) != flips {
+    if differences(codeword, bits) != flips {
         return false;
     }
     is_codeword(m, t, codeword, again)
@@ -60,7 +83,7 @@ fn is_found(
 
 // Whether a word that the decoder lost is lost to Linux too, and the buffer is as it was.
 fn is_lost(decoded: &[u8], codeword: &[u8]) -> bool {
-    if !test_lines::is_same(decoded, b"lost") {
+    if !is_same(decoded, b"lost") {
         return false;
     }
     words::is_filled(codeword, FILL)

@@ -1,11 +1,11 @@
--- `test_lines::differences` is safe and ends: the sum is at most the positions passed, the measure those left. Assumes nothing.
+-- `differences` is safe and ends: the sum is at most the positions passed, the measure those left. Assumes nothing.
 use Prim.Native.Nat.{_-_, _≤_}
 use mathlib.Core.Logic.{⊎-elim}
 use native.Mathlib.Omega.{arith}
 use borrow.Author.Needs.{needs}
 use lib.ListN.{length}
-use Rattle.test_lines.proofs.differences.Statement.{statement}
-use Rattle.test_lines.proofs.differences.Tie as tie
+use Rattle.test_linux.proofs.verdict.differences.Statement.{statement}
+use Rattle.test_linux.proofs.verdict.differences.Tie as tie
 
 abbrev Inv-loop : tie.InvT-loop
 Inv-loop one other sum₀ i₀ sum i = sum ≤ i
