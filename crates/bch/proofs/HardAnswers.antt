@@ -9,12 +9,12 @@ use lib.ListN.{length, getD, take, drop, set}
 use lib.Seq.{drop-length, length-take-le}
 use Rattle.galois.specs.Packed.{packed}
 use Rattle.galois.proofs.Packed.{element-lt, packed-first, packed-second, packed-third}
-use Rattle.bch.specs.Words.{Bits, flip, flippedAt}
+use Rattle.bch.specs.Words.{Bits, Distinct, flip, flippedAt}
 use Rattle.bch.specs.Code.{Code, syndrome, wordLength}
-use Rattle.bch.specs.Hard.{Repair, hardStage, hardFlips, hardWritten}
+use Rattle.bch.specs.Hard.{Repair, repaired, hardStage, hardFlips, hardWritten}
 use Rattle.bch.proofs.Settings.{Lawful, primitive-of}
 use Rattle.bch.proofs.SyndromeLaws.{syndrome-lt}
-use Rattle.bch.proofs.ClosedForm.{located, hard-located}
+use Rattle.bch.proofs.ClosedForm.{located, hard-located, repaired-located, located-distinct}
 use Rattle.bch.proofs.RootTables.{RootTables, at}
 use Rattle.bch.proofs.Placing.{positions, next}
 
@@ -59,18 +59,31 @@ module _ (c : Code) (lawful : Lawful c) (first second : List ℕ) (tables : Root
   abbrev by : ℕ → ℕ → ℕ → Option (List ℕ)
   by = located (c .m) (c .t) (c .n) (at first) (at first) (at second)
 
+  by-parts : by (s % 1024) (s / 1024 % 1024) (s / 1048576) ≡ by (syndrome (c .m) 1 xs) (syndrome (c .m) 3 xs) (syndrome (c .m) 5 xs)
+  by-parts = ap₂ (λ (x y : ℕ). by x y (s / 1048576)) part1 part3 ∙ ap (by (syndrome (c .m) 1 xs) (syndrome (c .m) 3 xs)) part5
+
   -- .. so that what is located for them makes the answer
   stage : hardStage c xs ≡ Option·map (λ (P : List ℕ). record { word = flippedAt P xs; flips = length P }) (by (s % 1024) (s / 1024 % 1024) (s / 1048576))
   stage =
       hard-located c lawful (at first) (at first) (at second) (tables .tables) xs long bits
       ∙ ap (Option·map (λ (P : List ℕ). record { word = flippedAt P xs; flips = length P }))
-      (sym (ap₂ (λ (x y : ℕ). by x y (s / 1048576)) part1 part3 ∙ ap (by (syndrome (c .m) 1 xs) (syndrome (c .m) 3 xs)) part5))
+      (sym by-parts)
 
   module _ (found : Bool) (count : ℕ) (ps : List ℕ) (e : positions found count ps ≡ by (s % 1024) (s / 1024 % 1024) (s / 1048576)) where
     answer : hardStage c xs ≡ Option·map (λ (P : List ℕ). record { word = flippedAt P xs; flips = length P }) (positions found count ps)
     answer = stage ∙ ap (Option·map (λ (P : List ℕ). record { word = flippedAt P xs; flips = length P })) (sym e)
 
+    word : repaired c xs ≡ Option·map (λ (P : List ℕ). flippedAt P xs) (positions found count ps)
+    word =
+        repaired-located c lawful (at first) (at first) (at second) (tables .tables) xs long bits
+        ∙ ap (Option·map (λ (P : List ℕ). flippedAt P xs)) (sym (e ∙ by-parts))
+
     module _ (z : found ≡ false) where
+      -- nothing is found
+      pub none-repaired : repaired c xs ≡ none
+      unfolding positions
+      none-repaired = word ∙ ap (λ (b : Bool). Option·map (λ (P : List ℕ). flippedAt P xs) (positions b count ps)) z
+
       lost : hardStage c xs ≡ none
       unfolding positions
       lost =
@@ -84,10 +97,23 @@ module _ (c : Code) (lawful : Lawful c) (first second : List ℕ) (tables : Root
         sym (ap (λ (o : Option Repair). Option·getD (Option·map (λ (r : Repair). r .word) o) old) lost),
       )
 
-    module _ (z : found ≡ true) (room : count ≤ length ps) where
-      repaired : hardStage c xs ≡ some (record { word = flippedAt (take count ps) xs; flips = count })
+    module _ (z : found ≡ true) where
+      -- the codeword is the word flipped at what is found, ..
+      pub found-repaired : repaired c xs ≡ some (flippedAt (take count ps) xs)
       unfolding positions
-      repaired =
+      found-repaired = word ∙ ap (λ (b : Bool). Option·map (λ (P : List ℕ). flippedAt P xs) (positions b count ps)) z
+
+      -- .. which are distinct positions
+      pub found-distinct : Distinct (c .n) (take count ps)
+      unfolding positions
+      found-distinct =
+          located-distinct c lawful (at first) (at first) (at second) (tables .tables) xs long bits (take count ps)
+          (sym (e ∙ by-parts) ∙ ap (λ (b : Bool). positions b count ps) z)
+
+    module _ (z : found ≡ true) (room : count ≤ length ps) where
+      staged : hardStage c xs ≡ some (record { word = flippedAt (take count ps) xs; flips = count })
+      unfolding positions
+      staged =
           answer
           ∙ ap (λ (b : Bool). Option·map (λ (P : List ℕ). record { word = flippedAt P xs; flips = length P }) (positions b count ps)) z
           ∙ ap (λ (k : ℕ). some (record { word = flippedAt (take count ps) xs; flips = k })) (length-take-le count ps room)
@@ -95,6 +121,6 @@ module _ (c : Code) (lawful : Lawful c) (first second : List ℕ) (tables : Root
       pub found-answer : (old : List ℕ) → (some count ≡ hardFlips c xs) × (flippedAt (take count ps) xs ≡ hardWritten c xs old)
       unfolding hardFlips hardWritten
       found-answer old = (
-        sym (ap (Option·map (λ (r : Repair). r .flips)) repaired),
-        sym (ap (λ (o : Option Repair). Option·getD (Option·map (λ (r : Repair). r .word) o) old) repaired),
+        sym (ap (Option·map (λ (r : Repair). r .flips)) staged),
+        sym (ap (λ (o : Option Repair). Option·getD (Option·map (λ (r : Repair). r .word) o) old) staged),
       )

@@ -3,7 +3,7 @@
 ghost use mathlib.Core.Path.{_≡_};
 ghost use Prim.Native.Nat.{_*_, _≤_, _^_};
 ghost use Rattle.bch.specs.Code.{code};
-ghost use Rattle.take_format.specs.Refusal.{firstOf, refused, unlessAtMost, bitsCheck};
+ghost use Rattle.take_format.specs.Refusal.{firstOf, refused, unlessAtMost, bitsCheck, symbolsCheck};
 ghost use Rattle.take_format.specs.Refusal.{settings as Refusal·settings};
 ghost use Rattle.refusal.specs.Checked.{checked, AtMost};
 
@@ -122,4 +122,20 @@ pub fn bits(k: usize, n: usize, bits: &[u8], room: usize) -> Check
         return refuse(7, 0);
     }
     at_most(8, 1, bits)
+}
+
+// The depth, the n symbols that a call takes, and the room of n bytes that it writes to: 4, 6, 7, 9.
+pub fn symbols(depth: usize, n: usize, symbols: &[u8], room: usize) -> Check
+    ensures { λ r. ⌜ checked r ≡ symbolsCheck depth n (now (symbols .entry)) room ⌝ }
+{
+    if 6 < depth {
+        return refuse(4, 0);
+    }
+    if symbols.len() != n {
+        return refuse(6, 0);
+    }
+    if room != n {
+        return refuse(7, 0);
+    }
+    at_most(9, 31, symbols)
 }

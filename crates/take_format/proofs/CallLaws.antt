@@ -1,12 +1,11 @@
 -- Laws of the calls on one word: what they answer and leave in the buffer, by what their checks say. Assumes nothing.
 use Prim.Native.Nat.{ℕ}
-use mathlib.Core.Path.{_≡_, refl, ap, sym, _∙_}
+use mathlib.Core.Path.{_≡_, refl, ap, ap₂, sym, _∙_}
 use mathlib.Core.Logic.{inl, inr}
 use mathlib.Core.List.{List, [], _∷_, _++_}
 use mathlib.Core.Option.{Option, none, some}
-use lib.ListN.{length}
-use Rattle.bch.specs.Code.{Code, wordLength}
-use Rattle.take_format.specs.Refusal.{Refusal, firstOf, settings, bitsCheck, bitsRefusal}
+use Rattle.bch.specs.Code.{Code}
+use Rattle.take_format.specs.Refusal.{Refusal, firstOf, settings}
 use Rattle.take_format.specs.Calls.{answered, unlessRefused}
 
 -- two lists of checks, the second where the first refuses nothing
@@ -16,25 +15,20 @@ first-joined [] ps = refl
 first-joined (none ∷ os) ps = first-joined os ps
 first-joined (some r ∷ os) ps = refl
 
--- a call on k bits refuses what its settings are refused for, ..
-module _ (c : Code) (k : ℕ) (bits codeword : List ℕ) where
-  abbrev later : Option Refusal
-  later = bitsCheck k (wordLength c) bits (length codeword)
+-- a call refuses what its settings are refused for, ..
+module _ (c : Code) (later : Option Refusal) where
+  joined : firstOf (settings c ++ later ∷ []) ≡ firstOf (firstOf (settings c) ∷ later ∷ [])
+  joined = first-joined (settings c) (later ∷ [])
 
-  pub settings-refused : (r : Refusal) → some r ≡ firstOf (settings c) → bitsRefusal c k bits codeword ≡ some r
-  unfolding bitsRefusal firstOf
-  settings-refused r e =
-      first-joined (settings c) (later ∷ []) ∙ ap (λ (o : Option Refusal). firstOf (o ∷ later ∷ [])) (sym e)
+  pub settings-refused : (r : Refusal) → some r ≡ firstOf (settings c) → firstOf (settings c ++ later ∷ []) ≡ some r
+  unfolding firstOf
+  settings-refused r e = joined ∙ ap (λ (o : Option Refusal). firstOf (o ∷ later ∷ [])) (sym e)
 
-  -- .. and otherwise what its bits and its room are
-  pub bits-refused : (o : Option Refusal) → none ≡ firstOf (settings c) → o ≡ later → bitsRefusal c k bits codeword ≡ o
-  unfolding bitsRefusal firstOf
-  bits-refused none e h =
-      first-joined (settings c) (later ∷ []) ∙ ap (λ (o : Option Refusal). firstOf (o ∷ later ∷ [])) (sym e)
-      ∙ ap (λ (o : Option Refusal). firstOf (o ∷ [])) (sym h)
-  bits-refused (some r) e h =
-      first-joined (settings c) (later ∷ []) ∙ ap (λ (o : Option Refusal). firstOf (o ∷ later ∷ [])) (sym e)
-      ∙ ap (λ (o : Option Refusal). firstOf (o ∷ [])) (sym h)
+  -- .. and otherwise what its other checks refuse it for
+  pub later-refused : (o : Option Refusal) → none ≡ firstOf (settings c) → o ≡ later → firstOf (settings c ++ later ∷ []) ≡ o
+  unfolding firstOf
+  later-refused none e h = joined ∙ ap₂ (λ (o p : Option Refusal). firstOf (o ∷ p ∷ [])) (sym e) (sym h)
+  later-refused (some r) e h = joined ∙ ap₂ (λ (o p : Option Refusal). firstOf (o ∷ p ∷ [])) (sym e) (sym h)
 
 -- a refusal is the answer, and keeps the buffer
 pub answered-some : {A : Type 0} (o : Option Refusal) (r : Refusal) (a : A) → o ≡ some r → inl r ≡ answered o a

@@ -14,7 +14,7 @@ use Rattle.galois.proofs.Tests.{and-left, and-right}
 use Rattle.bch.specs.Words.{Below, Bits}
 use Rattle.bch.specs.Code.{Code, IsCode, parityLength, wordLength}
 use Rattle.chase.specs.Word.{Symbols}
-use Rattle.take_format.specs.Refusal.{Refusal, refused, unless, unlessAtMost, firstOf, settings, depthCheck, inputLength, outputLength, bitBytes, symbolBytes, bitsCheck, bitsRefusal, softRefusal}
+use Rattle.take_format.specs.Refusal.{Refusal, refused, unless, unlessAtMost, firstOf, settings, depthCheck, inputLength, outputLength, bitBytes, symbolBytes, bitsCheck, bitsRefusal, symbolsCheck, softRefusal}
 
 -- ---- a list of checks
 
@@ -167,14 +167,15 @@ pub record SoftAccepted (c : Code) (p : ℕ) (symbols codeword : List ℕ) : Typ
   pub are-symbols : Symbols symbols
 
 pub soft-accepted : (c : Code) (p : ℕ) (symbols codeword : List ℕ) → softRefusal c p symbols codeword ≡ none → SoftAccepted c p symbols codeword
-unfolding softRefusal
+unfolding softRefusal symbolsCheck
 soft-accepted c p symbols codeword e =
     let d = depthCheck p in
     let i = inputLength (wordLength c) (length symbols) in
     let o = outputLength (wordLength c) (length codeword) in
     let b = symbolBytes 0 symbols in
-    let (s, call) = first-append (settings c) (d ∷ i ∷ o ∷ b ∷ []) e in
-    let (hd, more) = first-cons d (i ∷ o ∷ b ∷ []) call in
+    let (s, call) = first-append (settings c) (firstOf (d ∷ i ∷ o ∷ b ∷ []) ∷ []) e in
+    let (all, _) = first-cons (firstOf (d ∷ i ∷ o ∷ b ∷ [])) [] call in
+    let (hd, more) = first-cons d (i ∷ o ∷ b ∷ []) all in
     let (hi, rest) = first-cons i (o ∷ b ∷ []) more in
     let (ho, last) = first-cons o (b ∷ []) rest in
     let (hb, _) = first-cons b [] last in

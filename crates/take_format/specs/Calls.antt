@@ -1,5 +1,5 @@
--- What the calls on one word answer, and what they leave in the caller's codeword buffer (document 01, "Hard stage" and
--- "Refusals, by their cause"): a call that refuses leaves it as it was, and so does a word that is lost. Assumes nothing.
+-- What the calls on one word answer, and what they leave in the caller's codeword buffer (document 01, "Hard stage",
+-- "Soft stage" and "Refusals, by their cause"): a call that refuses leaves it as it was, and so does a word that is lost. Assumes nothing.
 use Prim.Native.Nat.{ℕ}
 use mathlib.Core.Logic.{_⊎_, inl, inr}
 use mathlib.Core.List.{List}
@@ -7,7 +7,8 @@ use mathlib.Core.Option.{Option, none, some}
 use Rattle.bch.specs.Code.{Code}
 use Rattle.bch.specs.Encode.{encoded}
 use Rattle.bch.specs.Hard.{hardFlips, hardWritten}
-use Rattle.take_format.specs.Refusal.{Refusal, encodeRefusal, hardRefusal}
+use Rattle.chase.specs.Soft.{Answer, softStage, softWritten}
+use Rattle.take_format.specs.Refusal.{Refusal, encodeRefusal, hardRefusal, softRefusal}
 
 -- a call's answer: the refusal, where there is one
 unfoldable pub answered : {A : Type 0} → Option Refusal → A → Refusal ⊎ A
@@ -36,3 +37,14 @@ hardAnswer c bits codeword = answered (hardRefusal c bits codeword) (hardFlips c
 unfoldable pub hardBuffer : Code → List ℕ → List ℕ → List ℕ
 unfolding unlessRefused
 hardBuffer c bits codeword = unlessRefused (hardRefusal c bits codeword) codeword (hardWritten c bits codeword)
+
+-- ---- the soft stage answers a refusal, or what the search at depth p gives
+
+unfoldable pub softAnswer : Code → ℕ → List ℕ → List ℕ → Refusal ⊎ Answer
+unfolding answered
+softAnswer c p symbols codeword = answered (softRefusal c p symbols codeword) (softStage c p symbols)
+
+-- the codeword buffer then holds the codeword
+unfoldable pub softBuffer : Code → ℕ → List ℕ → List ℕ → List ℕ
+unfolding unlessRefused
+softBuffer c p symbols codeword = unlessRefused (softRefusal c p symbols codeword) codeword (softWritten (softStage c p symbols) codeword)

@@ -3,11 +3,13 @@ use native.Mathlib.Omega.{arith}
 use mathlib.Core.Path.{ap, sym, _∙_}
 use mathlib.Core.Option.{none}
 use borrow.Author.Needs.{needs}
-use Rattle.bch.specs.Code.{code, messageLength}
+use lib.ListN.{length}
+use Rattle.bch.specs.Code.{code, wordLength, messageLength}
 use Rattle.bch.specs.Encode.{encoded}
+use Rattle.take_format.specs.Refusal.{bitsCheck, bitsRefusal}
 use Rattle.take_format.specs.Calls.{encodeBuffer}
 use Rattle.take_format.proofs.RefusalLaws.{settings-code, bits-accepted}
-use Rattle.take_format.proofs.CallLaws.{settings-refused, bits-refused, buffer-some, buffer-none}
+use Rattle.take_format.proofs.CallLaws.{settings-refused, later-refused, buffer-some, buffer-none}
 use Rattle.refusal.specs.Checked.{checked}
 use Rattle.encoder.specs.Outcome.{encodedOf}
 use Rattle.encoder.proofs.encode.Statement.{statement}
@@ -20,19 +22,19 @@ enum-known-r : tie.Need-enum-known-r
 enum-known-r c = search needs
 
 returns : tie.Need-returns
-unfolding checked encodedOf encodeBuffer
+unfolding bitsRefusal checked encodedOf encodeBuffer
 returns c =
     let a = c .before .before .before .before .before .before .args in
     let w = code (a .m) (a .t) (a .n) in
     let refused = sym (ap checked (c .before .r .given .1)) ∙ c .before .before .before .settings .ensures in
-    let e = settings-refused w (messageLength w) (a .message .now) (a .codeword .now) _ refused in
+    let e = settings-refused w (bitsCheck (messageLength w) (wordLength w) (a .message .now) (length (a .codeword .now))) _ refused in
     (sym e, buffer-some _ _ (a .codeword .now) (encoded w (a .message .now)) e)
 
 enum-told : tie.Need-enum-told
 enum-told c = search needs
 
 mul-k : tie.Need-mul-k
-unfolding checked
+unfolding bitsRefusal checked
 mul-k c =
     let a = c .before .before .before .before .before .args in
     let named = sym (c .before .before .settings .ensures) ∙ ap checked (c .enum-told .given .1) in
@@ -40,7 +42,7 @@ mul-k c =
     omega (arith, ok .n-least)
 
 sub-k : tie.Need-sub-k
-unfolding checked
+unfolding bitsRefusal checked
 sub-k c =
     let a = c .before .before .before .before .before .args in
     let named = sym (c .before .before .settings .ensures) ∙ ap checked (c .enum-told .given .1) in
@@ -54,21 +56,21 @@ enum-known-r-2 : tie.Need-enum-known-r-2
 enum-known-r-2 c = search needs
 
 returns-2 : tie.Need-returns-2
-unfolding checked encodedOf encodeBuffer
+unfolding bitsRefusal checked encodedOf encodeBuffer
 returns-2 c =
     let a = c .before .before .before .before .before .before .before .before .before .args in
     let w = code (a .m) (a .t) (a .n) in
     let named = sym (ap checked (c .before .before .before .before .enum-told .given .1))
     ∙ c .before .before .before .before .before .before .settings .ensures in
     let refused = sym (ap checked (c .before .r2 .given .1)) ∙ c .before .before .before .bits .ensures in
-    let e = bits-refused w (messageLength w) (a .message .now) (a .codeword .now) _ named refused in
+    let e = later-refused w _ _ named refused in
     (sym e, buffer-some _ _ (a .codeword .now) (encoded w (a .message .now)) e)
 
 enum-told-2 : tie.Need-enum-told-2
 enum-told-2 c = search needs
 
 write-requires : tie.Need-write-requires
-unfolding checked
+unfolding bitsRefusal checked
 write-requires c κs =
     let a = c .before .before .before .before .before .before .before .before .before .args in
     let w = code (a .m) (a .t) (a .n) in
@@ -76,13 +78,13 @@ write-requires c κs =
     ∙ c .before .before .before .before .before .before .settings .ensures in
     let bits = sym (ap checked (c .before .enum-told2 .given .1)) ∙ c .before .before .before .bits .ensures in
     bits-accepted w (messageLength w) (a .message .now) (a .codeword .now)
-    (bits-refused w (messageLength w) (a .message .now) (a .codeword .now) none named bits)
+    (later-refused w _ none named bits)
 
 same-length : tie.Need-same-length
 same-length c = search needs
 
 returns-3 : tie.Need-returns-3
-unfolding checked encodedOf encodeBuffer
+unfolding bitsRefusal checked encodedOf encodeBuffer
 returns-3 c =
     let a = c .before .before .before .before .before .before .before .before .before .before .before .before .args in
     let w = code (a .m) (a .t) (a .n) in
@@ -90,7 +92,7 @@ returns-3 c =
     ∙ c .before .before .before .before .before .before .before .before .before .settings .ensures in
     let bits = sym (ap checked (c .before .before .before .before .enum-told2 .given .1))
     ∙ c .before .before .before .before .before .before .bits .ensures in
-    let e = bits-refused w (messageLength w) (a .message .now) (a .codeword .now) none named bits in
+    let e = later-refused w _ none named bits in
     (sym e, c .before .before .write .ensures ∙ buffer-none _ (a .codeword .now) (encoded w (a .message .now)) e)
 
 pub encode-spec : {M : Type 1} → statement M

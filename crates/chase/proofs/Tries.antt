@@ -1,0 +1,66 @@
+-- One try, from what is located for the packed syndromes of its test word. Assumes nothing.
+use Prim.Native.Nat.{ℕ, _+_, _-_, _*_, _/_, _%_, _^_, _<_}
+use native.Mathlib.Omega.{arith}
+use mathlib.Core.Path.{_≡_, ap, sym, _∙_}
+use mathlib.Core.Bool.{Bool, true, false}
+use mathlib.Core.List.{List}
+use mathlib.Core.Option.{none, some, Option·map}
+use lib.ListN.{length, take}
+use Rattle.bch.specs.Words.{Distinct, flippedAt}
+use Rattle.bch.specs.Code.{code}
+use Rattle.bch.proofs.Settings.{Lawful}
+use Rattle.bch.proofs.RootTables.{RootTables, at}
+use Rattle.bch.proofs.ClosedForm.{located}
+use Rattle.bch.proofs.Placing.{positions}
+use Rattle.bch.proofs.HardAnswers.{parts-lt, none-repaired, found-repaired, found-distinct}
+use Rattle.chase.specs.Soft.{Candidate, hardBits, reliabilities, candidate, tried}
+use Rattle.chase.specs.Word.{test}
+use Rattle.chase.proofs.TestSums.{packedSums}
+use Rattle.chase.proofs.Weights.{Weighs}
+use Rattle.chase.proofs.Allowances.{weighed, allowance-keys}
+use Rattle.chase.proofs.Ready.{Ready, length-tested, bits-tested}
+
+same-candidate : (w : List ℕ) (j : ℕ) {q q′ L L′ A A′ : ℕ} → q ≡ q′ → L ≡ L′ → A ≡ A′
+    → _≡_ {A = Candidate} (record { word = w; q = q; L = L; A = A; j = j }) (record { word = w; q = q′; L = L′; A = A′; j = j })
+same-candidate w j e f g = cc
+
+module _ (m t n : ℕ) (lawful : Lawful (code m t n)) (first second : List ℕ) (tables : RootTables m t first second) (ss ks : List ℕ) (p : ℕ)
+    (ready : Ready (2 * t + 1) ss ks p) (long : length ss ≡ n) (j s : ℕ) (packs : s ≡ packedSums m (test p ss j)) where
+  T : List ℕ
+  T = test p ss j
+
+  long-T : length T ≡ n
+  unfolding T
+  long-T = length-tested (2 * t + 1) ss ks p ready j ∙ long
+
+  -- the parts of the packed number are elements
+  pub try-parts : (s % 1024 < 2 ^ m) × (s / 1024 % 1024 < 2 ^ m) × (s / 1048576 < 2 ^ m)
+  unfolding T
+  try-parts = parts-lt (code m t n) lawful first second tables T long-T (bits-tested (2 * t + 1) ss ks p ready j) s packs
+
+  module _ (found : Bool) (count : ℕ) (ps : List ℕ)
+      (e : positions found count ps ≡ located m t n (at first) (at first) (at second) (s % 1024) (s / 1024 % 1024) (s / 1048576)) where
+    -- nothing is located: no candidate
+    pub try-none : found ≡ false → Option·map (candidate (code m t n) p ss j) (tried (code m t n) p ss j) ≡ none
+    unfolding T tried
+    try-none z =
+        ap (Option·map (candidate (code m t n) p ss j))
+        (none-repaired (code m t n) lawful first second tables T long-T (bits-tested (2 * t + 1) ss ks p ready j) s packs found count ps e z)
+
+    module _ (z : found ≡ true) where
+      -- what is located is distinct
+      pub try-distinct : Distinct n (take count ps)
+      unfolding T
+      try-distinct = found-distinct (code m t n) lawful first second tables T long-T (bits-tested (2 * t + 1) ss ks p ready j) s packs found count ps e z
+
+      -- a candidate, weighed
+      pub try-some : (q L A : ℕ) → Weighs (reliabilities ss) (flippedAt (take count ps) (test p ss j)) (hardBits ss) q L → A ≡ weighed (take (2 * t + 1 - q) ks)
+          → Option·map (candidate (code m t n) p ss j) (tried (code m t n) p ss j)
+          ≡ some (record { word = flippedAt (take count ps) (test p ss j); q = q; L = L; A = A; j = j })
+      unfolding T tried candidate
+      try-some q L A w a =
+          let c = flippedAt (take count ps) (test p ss j) in
+          ap (Option·map (candidate (code m t n) p ss j))
+          (found-repaired (code m t n) lawful first second tables T long-T (bits-tested (2 * t + 1) ss ks p ready j) s packs found count ps e z)
+          ∙ ap some (sym (same-candidate c j (w .count) (w .sum)
+          (a ∙ allowance-keys (ready .size) (2 * t + 1) q ss ks c (ready .keys) (omega (arith, ready .distance-kept)) (omega (arith, ready .distance-there)) (w .count))))
