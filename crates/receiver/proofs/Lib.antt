@@ -1,0 +1,3 @@
+pub mod Margins
+pub mod Outcomes
+pub mod Tellings

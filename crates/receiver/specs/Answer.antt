@@ -1,14 +1,27 @@
 -- What the receiver's answers mean, in document 01's numbers. Assumes nothing.
 use Prim.Native.Nat.{ℕ}
 use mathlib.Core.Logic.{_⊎_, inl, inr}
+use mathlib.Core.List.{List}
 use mathlib.Core.Option.{Option, none, some}
+use Rattle.chase.specs.Soft.{Answer, fair, sure, lostAnswer}
 use Rattle.take_format.specs.Refusal.{Refusal}
 use Rattle.refusal.specs.Checked.{refusalOf}
 use Rattle.receiver.specs.declared.Hard.{Hard}
 use Rattle.receiver.specs.declared.Hard.the-variants.{Refused, Lost, Found}
+use Rattle.receiver.specs.declared.Soft.{Soft}
+use Rattle.receiver.specs.declared.Soft.the-variants.{Refused as Soft·Refused, Lost as Soft·Lost, Fair, Sure}
 
 -- the hard stage's answer: a refusal; or none, for a word that is lost, or the number of flips
 unfoldable pub hardOf : Hard → Refusal ⊎ Option ℕ
 hardOf (Refused r) = inl (refusalOf r)
 hardOf Lost = inr none
 hardOf (Found k) = inr (some k)
+
+-- the soft stage's answer, beside the word that then stands in the caller's buffer: a refusal; or a mark with L, margin, q, j and the
+-- tries, where lost has 0 for L, margin, q and j
+unfoldable pub softOf : Soft → List ℕ → Refusal ⊎ Answer
+unfolding lostAnswer
+softOf (Soft·Refused r) word = inl (refusalOf r)
+softOf (Soft·Lost tries) word = inr (lostAnswer tries)
+softOf (Fair L margin q j tries) word = inr (record { mark = fair; distance = L; margin = margin; flips = q; place = j; tries = tries; word = word })
+softOf (Sure L margin q j tries) word = inr (record { mark = sure; distance = L; margin = margin; flips = q; place = j; tries = tries; word = word })

@@ -11,16 +11,21 @@
 // (`repair`). What has a `requires` is in private modules.
 ghost use mathlib.Core.Path.{_≡_};
 ghost use Rattle.bch.specs.Code.{code};
-ghost use Rattle.take_format.specs.Calls.{hardAnswer, hardBuffer};
-ghost use Rattle.receiver.specs.Answer.{hardOf};
+ghost use Rattle.take_format.specs.Calls.{hardAnswer, hardBuffer, softAnswer, softBuffer};
+ghost use Rattle.receiver.specs.Answer.{hardOf, softOf};
 use refusal::Check;
 use refusal::Refusal;
 
+mod decision;
 mod field;
 mod locate;
+mod ranking;
 mod repair;
 mod roots;
+mod search;
 mod syndrome;
+mod tests;
+mod weighing;
 
 // The hard stage's answer: a refusal, a word that is lost, or a codeword found with so many flips.
 pub enum Hard {
@@ -47,4 +52,56 @@ pub fn decode_hard(m: usize, t: usize, n: usize, bits: &[u8], codeword: &mut [u8
         Check::Passed => {}
     }
     repair::decode(m, t, n, bits, codeword)
+}
+
+// The soft stage's answer: a refusal; a word that is lost; or a codeword, the best of those found (fair) or one that no codeword
+// of the whole code is nearer than (sure). Distance is L, margin A - L, flips q, place the test word j that gave it, and tries the
+// hard decodings made.
+pub enum Soft {
+    Refused(Refusal),
+    Lost {
+        tries: usize,
+    },
+    Fair {
+        distance: usize,
+        margin: i32,
+        flips: usize,
+        place: usize,
+        tries: usize,
+    },
+    Sure {
+        distance: usize,
+        margin: i32,
+        flips: usize,
+        place: usize,
+        tries: usize,
+    },
+}
+
+// Writes the codeword that the search of the given depth finds for n symbols, where it finds one. Any m, t, n, depth, symbols and
+// buffer may be handed in.
+pub fn decode_soft(
+    m: usize,
+    t: usize,
+    n: usize,
+    depth: usize,
+    symbols: &[u8],
+    codeword: &mut [u8],
+) -> Soft
+    ensures { λ r. ⌜ softOf r (now (codeword .exit)) ≡ softAnswer (code m t n) depth (now (symbols .entry)) (now (codeword .entry)) ⌝ }
+    ensures { λ _. ⌜ now (codeword .exit) ≡ softBuffer (code m t n) depth (now (symbols .entry)) (now (codeword .entry)) ⌝ }
+{
+    match refusal::settings(m, t, n) {
+        Check::Refused(r) => {
+            return Soft::Refused(r);
+        }
+        Check::Passed => {}
+    }
+    match refusal::symbols(depth, n, symbols, codeword.len()) {
+        Check::Refused(r) => {
+            return Soft::Refused(r);
+        }
+        Check::Passed => {}
+    }
+    decision::decode(m, t, n, depth, symbols, codeword)
 }

@@ -214,7 +214,7 @@ pub struct Flips {
 }
 
 // Nothing to flip is found.
-fn lost() -> Flips
+pub fn lost() -> Flips
     ensures { λ r. ⌜ (r .found ≡ false) × (r .count ≡ 0) × (length (r .at) ≡ 3) ⌝ }
 {
     Flips {

@@ -32,7 +32,7 @@ fn copy(bits: &[u8], out: &mut [u8])
 }
 
 // Flips the bits at the positions.
-fn flip_at(out: &mut [u8], f: Flips)
+pub fn flip_at(out: &mut [u8], f: Flips)
     requires { ⌜ Bits (now out) × Placed (length (now out)) (f .count) (f .at) ⌝ }
     ensures { λ _. ⌜ now (out .exit) ≡ flippedAt (take (f .count) (f .at)) (now (out .entry)) ⌝ }
 {

@@ -6,6 +6,9 @@ ghost use Rattle.galois.specs.Packed.{packed};
 ghost use Rattle.galois.proofs.FieldTables.{FieldTables};
 ghost use Rattle.bch.specs.Words.{Bits};
 ghost use Rattle.bch.specs.Code.{syndrome};
+ghost use Rattle.chase.specs.Soft.{hardBits};
+ghost use Rattle.chase.specs.Word.{Symbols};
+ghost use Rattle.chase.proofs.TestSums.{packedSums};
 
 // x where the bit is 1, and 0 where it is 0.
 fn where_set(bit: u8, x: u32) -> u32
@@ -25,6 +28,21 @@ pub fn syndromes(m: usize, exps: &[u16], logs: &[u16], powers: &[u32], bits: &[u
     let mut i = 0;
     while i < bits.len() {
         acc = acc ^ where_set(bits[i], powers[i]);
+        i += 1;
+    }
+    acc
+}
+
+// Those of the hard bits of symbols.
+pub fn of_symbols(m: usize, exps: &[u16], logs: &[u16], powers: &[u32], s: &[u8]) -> u32
+    requires { ⌜ FieldTables m (now exps) (now logs) (now powers) ⌝ }
+    requires { ⌜ (length (now s) ≤ 2 ^ m - 1) × Symbols (now s) ⌝ }
+    ensures { λ r. ⌜ r ≡ packedSums m (hardBits (now (s .entry))) ⌝ }
+{
+    let mut acc: u32 = 0;
+    let mut i = 0;
+    while i < s.len() {
+        acc = acc ^ where_set(s[i] / 16, powers[i]);
         i += 1;
     }
     acc

@@ -12,6 +12,17 @@ pub fn number(value: usize) {
     io::print_decimal(STDOUT_FILENO, value as u64);
 }
 
+// Writes the number in decimal, with a hyphen before a negative one.
+pub fn signed(value: i32) {
+    let wide = value as i64;
+    if wide < 0 {
+        text(b"-");
+        number((0 - wide) as usize);
+        return;
+    }
+    number(wide as usize);
+}
+
 // Writes each byte of the word as a number, with nothing between: a word of bits as 0s and 1s.
 pub fn bits(word: &[u8]) {
     let mut i = 0;

@@ -1,0 +1,79 @@
+-- What is added and what is left to add are the syndromes of the hard bits. Assumes nothing.
+use Prim.Native.Nat.{_-_, _≤_}
+use native.Mathlib.Omega.{arith}
+use mathlib.Core.Path.{_≡_, sym}
+use borrow.Author.Needs.{needs}
+use lib.Bits.{bitXor}
+use lib.ListN.{length, drop}
+use Rattle.galois.proofs.FieldTables.{primitive-tables}
+use Rattle.bch.specs.Code.{syndrome}
+use Rattle.bch.proofs.Entries.{below-at}
+use Rattle.bch.proofs.SyndromeSums.{sums, sums-acc, sums-end}
+use Rattle.chase.specs.Soft.{hardBits}
+use Rattle.chase.proofs.Reach.{bits-hard, length-hard, hard-at}
+use Rattle.receiver.proofs.syndrome.of_symbols.Statement.{statement}
+use Rattle.receiver.proofs.syndrome.of_symbols.Tie as tie
+
+abbrev Inv-loop : tie.InvT-loop
+Inv-loop m exps logs powers s acc₀ i₀ acc i =
+    (i ≤ length s) × (bitXor acc (sums m i (drop i (hardBits s))) ≡ sums m 0 (hardBits s))
+
+abbrev μ-loop : tie.MeasureT-loop
+μ-loop m exps logs powers s acc₀ i₀ acc i = length s - i
+
+loop-holds : tie.Need-loop-holds Inv-loop μ-loop
+loop-holds c = search needs
+
+shared-slice-read-where-set : tie.Need-shared-slice-read-where-set Inv-loop μ-loop
+shared-slice-read-where-set c = search needs
+
+mul-where-set : tie.Need-mul-where-set Inv-loop μ-loop
+mul-where-set c = search needs
+
+shared-slice-read-where-set-2 : tie.Need-shared-slice-read-where-set-2 Inv-loop μ-loop
+shared-slice-read-where-set-2 c = search needs
+
+where-set-requires : tie.Need-where-set-requires Inv-loop μ-loop
+where-set-requires c κs =
+    let s = c .before .before .before .before .before .before .before .before in
+    omega (arith, below-at 31 (s .args .s .now) (c .before .before .before .loop .i) (s .pre .1 .1))
+
+add-i : tie.Need-add-i Inv-loop μ-loop
+add-i c = search needs
+
+loop-less : tie.Need-loop-less Inv-loop μ-loop
+loop-less c = search needs
+
+loop-again : tie.Need-loop-again Inv-loop μ-loop
+loop-again c =
+    let s = c .before .before .before .before .before .before .before .before .before in
+    let l = c .before .before .before .before .loop in
+    let a = s .args in
+    let f = s .pre .0 in (
+      omega arith,
+      rw (c .where-set .ensures)
+          (sums-acc (a .m) (primitive-tables _ _ _ _ f) (f .most) (hardBits (a .s .now)) (bits-hard (a .s .now) (s .pre .1 .1)) (l .i) (l .acc) _ _
+          (omega (arith, length-hard (a .s .now))) (sym (hard-at (a .s .now) (l .i))) (f .powers (l .i) (omega arith)) (l .inv .1)),
+    )
+
+returns : tie.Need-returns Inv-loop μ-loop
+unfolding syndrome
+returns c =
+    let s = c .before .before .before .before .before .before in
+    sums-end (s .args .m) (c .before .loop .i) _ (hardBits (s .args .s .now)) (omega (arith, length-hard (s .args .s .now))) (c .before .loop .inv .1)
+
+pub of-symbols-spec : {M : Type 1} → statement M
+of-symbols-spec =
+    tie.close
+    (tie.spec
+    Inv-loop
+    μ-loop
+    loop-holds
+    shared-slice-read-where-set
+    mul-where-set
+    shared-slice-read-where-set-2
+    where-set-requires
+    add-i
+    loop-less
+    loop-again
+    returns)

@@ -1,0 +1,56 @@
+-- What the numbers of the search stand for, and when they are sound. Assumes nothing.
+use Prim.Native.Nat.{ℕ, _<_}
+use mathlib.Core.Bool.{cond}
+use mathlib.Core.List.{List}
+use mathlib.Core.Option.{Option, none, some}
+use lib.Dec.{ltb}
+use lib.IntN.{subℕ}
+use lib.ListN.{take}
+use Rattle.bch.specs.Words.{flippedAt}
+use Rattle.bch.proofs.Placing.{Placed}
+use Rattle.chase.specs.Soft.{Answer, Candidate, answer, lostAnswer, sure, fair}
+use Rattle.chase.specs.Word.{test}
+use Rattle.receiver.specs.declared.locate.Flips.{Flips}
+use Rattle.receiver.specs.declared.search.Pick.{Pick}
+use Rattle.receiver.specs.declared.search.Outcome.{Outcome}
+use Rattle.receiver.specs.declared.Soft.{Soft}
+use Rattle.receiver.specs.declared.Soft.the-variants.{Lost, Fair, Sure}
+
+-- the positions of a record
+abbrev pub flipsOf : Flips → List ℕ
+flipsOf f = take (f .count) (f .at)
+
+module _ (p : ℕ) (ss : List ℕ) where
+  -- the candidate of a pick
+  abbrev pub candidateOf : Pick → Candidate
+  candidateOf k = record { word = flippedAt (flipsOf (k .flips)) (test p ss (k .place)); q = k .q; L = k .sum; A = k .allowed; j = k .place }
+
+  -- what a pick stands for
+  unfoldable pub pickOf : Pick → Option Candidate
+  pickOf k = cond (k .flips .found) (some (candidateOf k)) none
+
+  -- what the search gives
+  unfoldable pub outcomeOf : Outcome → Answer
+  unfolding answer lostAnswer
+  outcomeOf o =
+      cond (o .pick .flips .found)
+      (cond (o .sure) (answer sure (o .tries) (candidateOf (o .pick))) (answer fair (o .tries) (candidateOf (o .pick))))
+      (lostAnswer (o .tries))
+
+-- the better of two picks, the second of which stands for a candidate: the second only where it is nearer
+unfoldable pub betterPick : Pick → Pick → Pick
+betterPick b k = cond (b .flips .found) (cond (ltb (k .sum) (b .sum)) k b) k
+
+-- a pick's numbers are small, and its positions those of a word of n bits
+pub record Sound (n : ℕ) (k : Pick) : Type 0 where
+  pub placed : Placed n (k .flips .count) (k .flips .at)
+  pub sum-small : k .sum < 65536
+  pub allowed-small : k .allowed < 65536
+
+-- the answer's case for an outcome
+unfoldable pub told : Outcome → Soft
+told o =
+    cond (o .pick .flips .found)
+    (cond (o .sure) (Sure (o .pick .sum) (subℕ (o .pick .allowed) (o .pick .sum)) (o .pick .q) (o .pick .place) (o .tries))
+    (Fair (o .pick .sum) (subℕ (o .pick .allowed) (o .pick .sum)) (o .pick .q) (o .pick .place) (o .tries)))
+    (Lost (o .tries))

@@ -1,0 +1,111 @@
+// What a candidate weighs: its flips q, its distance L and its allowance A.
+ghost use mathlib.Core.Path.{_≡_};
+ghost use Prim.Native.Nat.{ℕ, _+_, _-_, _<_, _≤_};
+ghost use lib.ListN.{length, getD, take};
+ghost use Rattle.bch.specs.Words.{isIn, Distinct, flippedAt};
+ghost use Rattle.chase.specs.Soft.{hardBits, reliabilities};
+ghost use Rattle.chase.specs.Word.{test, weakest};
+ghost use Rattle.chase.proofs.Doublings.{Holds};
+ghost use Rattle.chase.proofs.TestWords.{chosen};
+ghost use Rattle.chase.proofs.Weights.{Weighs, packedWeight};
+ghost use Rattle.chase.proofs.Allowances.{weighed};
+ghost use Rattle.chase.proofs.Ready.{Ready};
+use crate::locate::Flips;
+use crate::ranking;
+use crate::ranking::Keys;
+
+// The sums of the k smallest reliabilities, for each k.
+pub fn fill_allowed(keys: Keys, out: &mut [u32])
+    requires { ⌜ (length (keys .at) ≡ 8) × (9 ≤ length (now out)) ⌝ }
+    ensures { λ _. ⌜ Holds (λ (k : ℕ). weighed (take k (keys .at))) 9 (now (out .exit)) ⌝ }
+    ensures { λ _. ⌜ length (now (out .exit)) ≡ length (now (out .entry)) ⌝ }
+{
+    let at = keys.at;
+    out[0] = 0;
+    let mut k = 0;
+    while k < 8 {
+        out[k + 1] = out[k] + ranking::held(at[k]);
+        k += 1;
+    }
+}
+
+// A: the sum of the d - q smallest reliabilities.
+pub fn allowed_at(keys: Keys, allowed: &[u32], d: usize, q: u32) -> u32
+    requires { ⌜ (d ≤ 8) × (length (keys .at) ≡ 8) × (9 ≤ length (now allowed)) × Holds (λ (k : ℕ). weighed (take k (keys .at))) 9 (now allowed) ⌝ }
+    ensures { λ r. ⌜ r ≡ weighed (take (d - q) (keys .at)) ⌝ }
+{
+    let flips = q as usize;
+    if d <= flips {
+        return 0;
+    }
+    allowed[d - flips]
+}
+
+// The reliability at a position.
+fn z_at(s: &[u8], x: usize) -> u32
+    requires { ⌜ x < length (now s) ⌝ }
+    ensures { λ r. ⌜ (r ≡ getD (reliabilities (now (s .entry))) x 0) × (r < 16) ⌝ }
+{
+    (s[x] % 16) as u32
+}
+
+// Whether test word j flips position x. (Few positions are as weak as the last weak one: the others need no search.)
+fn flipped(d: usize, s: &[u8], keys: Keys, p: usize, j: usize, x: usize, z: u32) -> bool
+    requires { ⌜ Ready d (now s) (keys .at) p ⌝ }
+    requires { ⌜ z ≡ getD (reliabilities (now s)) x 0 ⌝ }
+    ensures { λ r. ⌜ r ≡ isIn x (chosen j (weakest p (now (s .entry)))) ⌝ }
+{
+    let at = keys.at;
+    if p == 0 {
+        return false;
+    }
+    if ranking::held(at[p - 1]) < z {
+        return false;
+    }
+    let mut r = j;
+    let mut k = 0;
+    while k < p {
+        if r % 2 == 1 {
+            if ranking::place_of(at[k]) == x {
+                return true;
+            }
+        }
+        r = r / 2;
+        k += 1;
+    }
+    false
+}
+
+// The flips q and the distance L of a candidate.
+pub struct Weight {
+    pub q: u32,
+    pub sum: u32,
+}
+
+// q and L of test word j flipped at f, against the hard bits: from `start`, those of the test word, each position of f adds its flip,
+// or takes it away where the test word flips it already.
+pub fn weigh(d: usize, s: &[u8], keys: Keys, p: usize, j: usize, start: u32, f: Flips) -> Weight
+    requires { ⌜ Ready d (now s) (keys .at) p ⌝ }
+    requires { ⌜ (f .count ≤ 3) × (length (f .at) ≡ 3) × Distinct (length (now s)) (take (f .count) (f .at)) ⌝ }
+    requires { ⌜ start ≡ packedWeight (reliabilities (now s)) (test p (now s) j) (hardBits (now s)) ⌝ }
+    ensures { λ r. ⌜ Weighs (reliabilities (now (s .entry))) (flippedAt (take (f .count) (f .at)) (test p (now (s .entry)) j)) (hardBits (now (s .entry))) (r .q) (r .sum) ⌝ }
+{
+    let places = f.at;
+    let count = f.count;
+    let mut q = start / 65536;
+    let mut sum = start % 65536;
+    let mut a = 0;
+    while a < count {
+        let x = places[a];
+        let z = z_at(s, x);
+        if flipped(d, s, keys, p, j, x, z) {
+            q -= 1;
+            sum -= z;
+        } else {
+            q += 1;
+            sum += z;
+        }
+        a += 1;
+    }
+    Weight { q, sum }
+}
