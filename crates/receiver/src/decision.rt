@@ -15,7 +15,7 @@ ghost use Rattle.chase.specs.Word.{test, Symbols};
 ghost use Rattle.chase.proofs.Ready.{Ready, placesOf};
 ghost use Rattle.take_format.proofs.RefusalLaws.{SoftAccepted};
 ghost use Rattle.receiver.specs.Answer.{softOf};
-ghost use Rattle.receiver.specs.Search.{told};
+ghost use Rattle.receiver.specs.Search.{outcomeOf, Sound, told};
 use crate::Soft;
 use crate::field;
 use crate::locate::Flips;
@@ -116,6 +116,54 @@ fn more(d: usize, p: usize) -> usize
     if d < p { p } else { d }
 }
 
+// What the search finds for a word that is ranked.
+fn find(
+    m: usize,
+    t: usize,
+    n: usize,
+    period: usize,
+    exps: &[u16],
+    logs: &[u16],
+    powers: &[u32],
+    first: &[u16],
+    second: &[u16],
+    p: usize,
+    s: &[u8],
+    keys: Keys,
+) -> Outcome
+    requires { ⌜ FieldTables m (now exps) (now logs) (now powers) ⌝ }
+    requires { ⌜ RootTables m t (now first) (now second) ⌝ }
+    requires { ⌜ Lawful (code m t n) × (period ≡ 2 ^ m - 1) × (length (now s) ≡ n) × Ready (2 * t + 1) (now s) (keys .at) p ⌝ }
+    ensures { λ r. ⌜ (outcomeOf p (now (s .entry)) r ≡ softStage (code m t n) p (now (s .entry))) × Sound n (r .pick) ⌝ }
+{
+    let d = 2 * t + 1;
+    let base = syndrome::of_symbols(m, powers, s);
+    let mut sums = [0u32; 64];
+    let all = tests::fill_sums(m, d, powers, s, keys, p, base, &mut sums);
+    let mut weights = [0u32; 64];
+    tests::fill_weights(d, s, keys, p, &mut weights);
+    let mut allowed = [0u32; 9];
+    weighing::fill_allowed(keys, &mut allowed);
+    search::search(
+        m,
+        t,
+        n,
+        period,
+        exps,
+        logs,
+        powers,
+        first,
+        second,
+        s,
+        keys,
+        p,
+        &allowed,
+        &sums,
+        &weights,
+        all,
+    )
+}
+
 // The soft stage with tables that are filled: the answer is known before the buffer is written.
 pub fn decode_with(
     m: usize,
@@ -140,14 +188,7 @@ pub fn decode_with(
 {
     let d = 2 * t + 1;
     let keys = ranking::rank(s, more(d, p));
-    let base = syndrome::of_symbols(m, exps, logs, powers, s);
-    let mut sums = [0u32; 64];
-    let all = tests::fill_sums(m, d, exps, logs, powers, s, keys, p, base, &mut sums);
-    let mut weights = [0u32; 64];
-    tests::fill_weights(d, s, keys, p, &mut weights);
-    let mut allowed = [0u32; 9];
-    weighing::fill_allowed(keys, &mut allowed);
-    let o = search::search(
+    let o = find(
         m,
         t,
         n,
@@ -157,13 +198,9 @@ pub fn decode_with(
         powers,
         first,
         second,
+        p,
         s,
         keys,
-        p,
-        &allowed,
-        &sums,
-        &weights,
-        all,
     );
     let answer = tell(o);
     let found = o.pick.flips.found;

@@ -67,7 +67,7 @@ fn decode_with(
     ensures { λ r. ⌜ hardOf r ≡ inr (hardFlips (code m t n) (now (bits .entry))) ⌝ }
     ensures { λ _. ⌜ now (codeword .exit) ≡ hardWritten (code m t n) (now (bits .entry)) (now (codeword .entry)) ⌝ }
 {
-    let s = syndrome::syndromes(m, exps, logs, powers, bits);
+    let s = syndrome::syndromes(m, powers, bits);
     let f = locate::locate(m, t, n, period, exps, logs, powers, first, second, s);
     let found = f.found;
     if !found {

@@ -3,7 +3,7 @@ ghost use mathlib.Core.Path.{_≡_};
 ghost use Prim.Native.Nat.{ℕ, _+_, _-_, _^_, _<_, _≤_};
 ghost use lib.Bits.{bitXor};
 ghost use lib.ListN.{length};
-ghost use Rattle.galois.proofs.FieldTables.{FieldTables};
+ghost use Rattle.galois.proofs.FieldTables.{Powers};
 ghost use Rattle.chase.specs.Soft.{hardBits, reliabilities};
 ghost use Rattle.chase.specs.Word.{test};
 ghost use Rattle.chase.proofs.Doublings.{Doubled, Holds, Small};
@@ -43,8 +43,6 @@ fn double_add(out: &mut [u32], size: usize, v: u32)
 pub fn fill_sums(
     m: usize,
     d: usize,
-    exps: &[u16],
-    logs: &[u16],
     powers: &[u32],
     s: &[u8],
     keys: Keys,
@@ -52,7 +50,7 @@ pub fn fill_sums(
     base: u32,
     out: &mut [u32],
 ) -> usize
-    requires { ⌜ FieldTables m (now exps) (now logs) (now powers) ⌝ }
+    requires { ⌜ (5 ≤ m) × (m ≤ 10) × (2 ^ m ≤ length (now powers)) × Powers m (now powers) ⌝ }
     requires { ⌜ Ready d (now s) (keys .at) p ⌝ }
     requires { ⌜ (length (now s) ≤ 2 ^ m - 1) × (64 ≤ length (now out)) × (base ≡ packedSums m (hardBits (now s))) ⌝ }
     ensures { λ r. ⌜ (r ≡ 2 ^ p) × (r ≤ 64) × Holds (λ (j : ℕ). packedSums m (test p (now (s .entry)) j)) (2 ^ p) (now (out .exit)) ⌝ }

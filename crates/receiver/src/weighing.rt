@@ -49,19 +49,12 @@ fn z_at(s: &[u8], x: usize) -> u32
     (s[x] % 16) as u32
 }
 
-// Whether test word j flips position x. (Few positions are as weak as the last weak one: the others need no search.)
-fn flipped(d: usize, s: &[u8], keys: Keys, p: usize, j: usize, x: usize, z: u32) -> bool
+// Whether position x is among the weak ones that test word j flips.
+fn chosen_at(d: usize, s: &[u8], keys: Keys, p: usize, j: usize, x: usize) -> bool
     requires { ⌜ Ready d (now s) (keys .at) p ⌝ }
-    requires { ⌜ z ≡ getD (reliabilities (now s)) x 0 ⌝ }
     ensures { λ r. ⌜ r ≡ isIn x (chosen j (weakest p (now (s .entry)))) ⌝ }
 {
     let at = keys.at;
-    if p == 0 {
-        return false;
-    }
-    if ranking::held(at[p - 1]) < z {
-        return false;
-    }
     let mut r = j;
     let mut k = 0;
     while k < p {
@@ -74,6 +67,22 @@ fn flipped(d: usize, s: &[u8], keys: Keys, p: usize, j: usize, x: usize, z: u32)
         k += 1;
     }
     false
+}
+
+// Whether test word j flips position x, of reliability z. (A position that is stronger than the last weak one needs no search.)
+fn flipped(d: usize, s: &[u8], keys: Keys, p: usize, j: usize, x: usize, z: u32) -> bool
+    requires { ⌜ Ready d (now s) (keys .at) p ⌝ }
+    requires { ⌜ z ≡ getD (reliabilities (now s)) x 0 ⌝ }
+    ensures { λ r. ⌜ r ≡ isIn x (chosen j (weakest p (now (s .entry)))) ⌝ }
+{
+    if p == 0 {
+        return false;
+    }
+    let at = keys.at;
+    if ranking::held(at[p - 1]) < z {
+        return false;
+    }
+    chosen_at(d, s, keys, p, j, x)
 }
 
 // The flips q and the distance L of a candidate.

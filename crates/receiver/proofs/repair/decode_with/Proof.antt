@@ -16,8 +16,9 @@ use Rattle.receiver.proofs.repair.decode_with.Tie as tie
 syndromes-requires : tie.Need-syndromes-requires
 syndromes-requires c κs =
     let s = c .before .before .before .before .before .before .before in
+    let f = s .pre .0 in
     let p = s .pre .1 .1 in
-    (s .pre .0, (omega (arith, p .0 .0 .n-most, p .1 .0), p .1 .2))
+    ((f .least, f .most, f .powers-long, f .powers), (omega (arith, p .0 .0 .n-most, p .1 .0), p .1 .2))
 
 locate-requires : tie.Need-locate-requires
 locate-requires c κs =

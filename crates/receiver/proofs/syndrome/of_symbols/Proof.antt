@@ -5,7 +5,7 @@ use mathlib.Core.Path.{_≡_, sym}
 use borrow.Author.Needs.{needs}
 use lib.Bits.{bitXor}
 use lib.ListN.{length, drop}
-use Rattle.galois.proofs.FieldTables.{primitive-tables}
+use Rattle.galois.proofs.Primitive.{primitive-5-10}
 use Rattle.bch.specs.Code.{syndrome}
 use Rattle.bch.proofs.Entries.{below-at}
 use Rattle.bch.proofs.SyndromeSums.{sums, sums-acc, sums-end}
@@ -15,11 +15,11 @@ use Rattle.receiver.proofs.syndrome.of_symbols.Statement.{statement}
 use Rattle.receiver.proofs.syndrome.of_symbols.Tie as tie
 
 abbrev Inv-loop : tie.InvT-loop
-Inv-loop m exps logs powers s acc₀ i₀ acc i =
+Inv-loop m powers s acc₀ i₀ acc i =
     (i ≤ length s) × (bitXor acc (sums m i (drop i (hardBits s))) ≡ sums m 0 (hardBits s))
 
 abbrev μ-loop : tie.MeasureT-loop
-μ-loop m exps logs powers s acc₀ i₀ acc i = length s - i
+μ-loop m powers s acc₀ i₀ acc i = length s - i
 
 loop-holds : tie.Need-loop-holds Inv-loop μ-loop
 loop-holds c = search needs
@@ -35,7 +35,7 @@ shared-slice-read-where-set-2 c = search needs
 
 where-set-requires : tie.Need-where-set-requires Inv-loop μ-loop
 where-set-requires c κs =
-    let s = c .before .before .before .before .before .before .before .before in
+    let s = c .before .before .before .before .before .before in
     omega (arith, below-at 31 (s .args .s .now) (c .before .before .before .loop .i) (s .pre .1 .1))
 
 add-i : tie.Need-add-i Inv-loop μ-loop
@@ -46,20 +46,20 @@ loop-less c = search needs
 
 loop-again : tie.Need-loop-again Inv-loop μ-loop
 loop-again c =
-    let s = c .before .before .before .before .before .before .before .before .before in
+    let s = c .before .before .before .before .before .before .before in
     let l = c .before .before .before .before .loop in
     let a = s .args in
     let f = s .pre .0 in (
       omega arith,
       rw (c .where-set .ensures)
-          (sums-acc (a .m) (primitive-tables _ _ _ _ f) (f .most) (hardBits (a .s .now)) (bits-hard (a .s .now) (s .pre .1 .1)) (l .i) (l .acc) _ _
-          (omega (arith, length-hard (a .s .now))) (sym (hard-at (a .s .now) (l .i))) (f .powers (l .i) (omega arith)) (l .inv .1)),
+          (sums-acc (a .m) (primitive-5-10 _ (f .0) (f .1)) (f .1) (hardBits (a .s .now)) (bits-hard (a .s .now) (s .pre .1 .1)) (l .i) (l .acc) _ _
+          (omega (arith, length-hard (a .s .now))) (sym (hard-at (a .s .now) (l .i))) (f .3 (l .i) (omega arith)) (l .inv .1)),
     )
 
 returns : tie.Need-returns Inv-loop μ-loop
 unfolding syndrome
 returns c =
-    let s = c .before .before .before .before .before .before in
+    let s = c .before .before .before .before in
     sums-end (s .args .m) (c .before .loop .i) _ (hardBits (s .args .s .now)) (omega (arith, length-hard (s .args .s .now))) (c .before .loop .inv .1)
 
 pub of-symbols-spec : {M : Type 1} → statement M

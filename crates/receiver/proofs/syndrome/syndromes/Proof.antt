@@ -5,7 +5,7 @@ use mathlib.Core.Path.{_≡_, refl}
 use borrow.Author.Needs.{needs}
 use lib.Bits.{bitXor}
 use lib.ListN.{length, drop}
-use Rattle.galois.proofs.FieldTables.{primitive-tables}
+use Rattle.galois.proofs.Primitive.{primitive-5-10}
 use Rattle.bch.specs.Code.{syndrome}
 use Rattle.bch.proofs.Entries.{below-at}
 use Rattle.bch.proofs.SyndromeSums.{sums, sums-acc, sums-end}
@@ -13,10 +13,10 @@ use Rattle.receiver.proofs.syndrome.syndromes.Statement.{statement}
 use Rattle.receiver.proofs.syndrome.syndromes.Tie as tie
 
 abbrev Inv-loop : tie.InvT-loop
-Inv-loop m exps logs powers bits acc₀ i₀ acc i = (i ≤ length bits) × (bitXor acc (sums m i (drop i bits)) ≡ sums m 0 bits)
+Inv-loop m powers bits acc₀ i₀ acc i = (i ≤ length bits) × (bitXor acc (sums m i (drop i bits)) ≡ sums m 0 bits)
 
 abbrev μ-loop : tie.MeasureT-loop
-μ-loop m exps logs powers bits acc₀ i₀ acc i = length bits - i
+μ-loop m powers bits acc₀ i₀ acc i = length bits - i
 
 loop-holds : tie.Need-loop-holds Inv-loop μ-loop
 loop-holds c = search needs
@@ -32,7 +32,7 @@ shared-slice-read-where-set-2 c = search needs
 
 where-set-requires : tie.Need-where-set-requires Inv-loop μ-loop
 where-set-requires c κs =
-    let s = c .before .before .before .before .before .before .before .before in
+    let s = c .before .before .before .before .before .before in
     below-at 1 (s .args .bits .now) (c .before .before .before .loop .i) (s .pre .1 .1)
 
 add-i : tie.Need-add-i Inv-loop μ-loop
@@ -43,19 +43,19 @@ loop-less c = search needs
 
 loop-again : tie.Need-loop-again Inv-loop μ-loop
 loop-again c =
-    let s = c .before .before .before .before .before .before .before .before .before in
+    let s = c .before .before .before .before .before .before .before in
     let l = c .before .before .before .before .loop in
     let f = s .pre .0 in (
       omega arith,
       rw (c .where-set .ensures)
-          (sums-acc (s .args .m) (primitive-tables _ _ _ _ f) (f .most) (s .args .bits .now) (s .pre .1 .1) (l .i) (l .acc) _ _ (omega arith) refl (f .powers (l .i) (omega arith))
+          (sums-acc (s .args .m) (primitive-5-10 _ (f .0) (f .1)) (f .1) (s .args .bits .now) (s .pre .1 .1) (l .i) (l .acc) _ _ (omega arith) refl (f .3 (l .i) (omega arith))
           (l .inv .1)),
     )
 
 returns : tie.Need-returns Inv-loop μ-loop
 unfolding syndrome
 returns c =
-    let s = c .before .before .before .before .before .before in
+    let s = c .before .before .before .before in
     sums-end (s .args .m) (c .before .loop .i) _ (s .args .bits .now) (omega arith) (c .before .loop .inv .1)
 
 pub syndromes-spec : {M : Type 1} → statement M

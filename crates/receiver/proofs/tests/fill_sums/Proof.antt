@@ -7,7 +7,8 @@ use mathlib.Core.Path.{_≡_, refl, ap, _∙_}
 use borrow.Author.Needs.{needs}
 use lib.ListN.{length, length-set}
 use lib.Pow.{pow-mono}
-use Rattle.galois.proofs.FieldTables.{powersOf, primitive-tables}
+use Rattle.galois.proofs.Primitive.{primitive-5-10}
+use Rattle.galois.proofs.FieldTables.{powersOf}
 use Rattle.chase.specs.Word.{test}
 use Rattle.chase.proofs.Doublings.{Holds, size-most}
 use Rattle.chase.proofs.TestSums.{packedSums}
@@ -16,18 +17,18 @@ use Rattle.receiver.proofs.tests.fill_sums.Statement.{statement}
 use Rattle.receiver.proofs.tests.fill_sums.Tie as tie
 
 abbrev Inv-loop : tie.InvT-loop
-Inv-loop m d exps logs powers s p base out₀ at size₀ b₀ out size b =
+Inv-loop m d powers s p base out₀ at size₀ b₀ out size b =
     (b ≤ p) × (size ≡ 2 ^ b) × (length out ≡ length out₀) × Holds (λ (j : ℕ). packedSums m (test p s j)) (2 ^ b) out
 
 abbrev μ-loop : tie.MeasureT-loop
-μ-loop m d exps logs powers s p base out₀ at size₀ b₀ out size b = p - b
+μ-loop m d powers s p base out₀ at size₀ b₀ out size b = p - b
 
 slice-write-out : tie.Need-slice-write-out Inv-loop μ-loop
 slice-write-out c = omega arith
 
 loop-holds : tie.Need-loop-holds Inv-loop μ-loop
 loop-holds c =
-    let s = c .before .before .before .before .before .before in
+    let s = c .before .before .before .before in
     let a = s .args in (
       omega arith,
       refl,
@@ -49,20 +50,20 @@ mul-v c = omega arith
 
 shared-slice-read-v : tie.Need-shared-slice-read-v Inv-loop μ-loop
 shared-slice-read-v c =
-    let s = c .before .before .before .before .before .before .before .before .before .before in
+    let s = c .before .before .before .before .before .before .before .before in
     let a = s .args in
     let l = c .before .before .before .loop in
     omega (
       arith,
       c .before .place-of .ensures,
       key-below (a .d) (a .s .now) (a .keys .at) (a .p) (s .pre .1 .0) (l .b) (omega arith),
-      s .pre .0 .powers-long,
+      s .pre .0 .2,
       s .pre .1 .1 .0,
     )
 
 double-xor-requires : tie.Need-double-xor-requires Inv-loop μ-loop
 double-xor-requires c κs =
-    let s = c .before .before .before .before .before .before .before .before .before .before .before in
+    let s = c .before .before .before .before .before .before .before .before .before in
     let l = c .before .before .before .before .loop in
     let g : l .size + l .size ≤ length (l .out)
     = omega (
@@ -88,7 +89,7 @@ loop-again : tie.Need-loop-again Inv-loop μ-loop
 loop-again c =
     let q = c .before .before .before .before .before in
     let l = q .before .before .loop in
-    let s = q .before .before .before .before .before .before .before .before .before in
+    let s = q .before .before .before .before .before .before .before in
     let a = s .args in
     let f = s .pre .0 in
     let ready = s .pre .1 .0 in
@@ -99,19 +100,19 @@ loop-again c =
       omega arith,
       rw (add-one, pow-succ' 2 (l .b), l .inv .1) refl,
       d .long ∙ l .inv .2,
-      sums-next (a .d) (a .s .now) (a .keys .at) (a .p) ready (a .m) (primitive-tables _ _ _ _ f) (f .most) (l .b) (l .size) _ (l .out) _
-          (omega arith) (l .inv .1) (f .powers (x .result) h ∙ ap (powersOf (a .m)) (x .ensures)) d (l .inv .3),
+      sums-next (a .d) (a .s .now) (a .keys .at) (a .p) ready (a .m) (primitive-5-10 _ (f .0) (f .1)) (f .1) (l .b) (l .size) _ (l .out) _
+          (omega arith) (l .inv .1) (f .3 (x .result) h ∙ ap (powersOf (a .m)) (x .ensures)) d (l .inv .3),
     )
 
 same-length : tie.Need-same-length Inv-loop μ-loop
 same-length c =
-    let a = c .before .before .before .before .before .before .before .before .args in
+    let a = c .before .before .before .before .before .before .args in
     let e : length (c .before .loop .out) ≡ length (a .out .now) = c .before .loop .inv .2 ∙ length-set (a .out .now) 0 (a .base) in
     search needs
 
 returns : tie.Need-returns Inv-loop μ-loop
 returns c =
-    let s = c .before .before .before .before .before .before .before .before in
+    let s = c .before .before .before .before .before .before in
     let a = s .args in
     let l = c .before .loop in
     let e : l .b ≡ a .p = omega arith in
