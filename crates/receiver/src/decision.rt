@@ -83,8 +83,8 @@ fn tell(o: Outcome) -> Soft
     requires { ⌜ (o .pick .sum < 65536) × (o .pick .allowed < 65536) ⌝ }
     ensures { λ r. ⌜ r ≡ told o ⌝ }
 {
-    let found = o.pick.flips.found;
-    if !found {
+    let located = o.pick.flips.found;
+    if !located {
         return Soft::Lost { tries: o.tries };
     }
     let distance = o.pick.sum as usize;
