@@ -1,4 +1,5 @@
--- What the numbers of the search stand for, and when they are sound. Assumes nothing.
+-- What the numbers of the search stand for, and when they are sound. Cited by the contracts of private functions alone.
+-- Assumes nothing.
 use Prim.Native.Nat.{ℕ, _<_}
 use mathlib.Core.Bool.{cond}
 use mathlib.Core.List.{List}

@@ -1,4 +1,4 @@
-// The receiver of a BCH word (document 01, "Hard stage"; bounded-distance decoding).
+// The receiver of a BCH word (document 01, "Hard stage" and "Soft stage"; bounded-distance and soft-decision decoding).
 //
 //     match receiver::decode_hard(6, 2, 63, &bits, &mut codeword) {
 //         receiver::Hard::Found(flips) => { .. }      // the codeword is in the buffer
@@ -6,9 +6,18 @@
 //         receiver::Hard::Refused(r) => { .. }        // r.number, r.place: the buffer is as it was
 //     }
 //
-// A call checks its settings, lengths and bits (`refusal`), fills the tables of the field (`field`) and of the solutions that t
-// needs (`roots`), adds up the syndromes S1, S3, S5 (`syndrome`), finds the positions to flip (`locate`) and only then writes
-// (`repair`). What has a `requires` is in private modules.
+//     match receiver::decode_soft(6, 2, 63, 4, &symbols, &mut codeword) {
+//         receiver::Soft::Sure { distance, margin, .. } => { .. }    // no codeword of the whole code is nearer
+//         receiver::Soft::Fair { distance, margin, .. } => { .. }    // the nearest of those that the search found
+//         receiver::Soft::Lost { tries } => { .. }                   // it found none: the buffer is as it was
+//         receiver::Soft::Refused(r) => { .. }
+//     }
+//
+// A call checks what it is given (`refusal`) and fills the tables of the field (`field`) and of the solutions that t needs (`roots`). The
+// hard stage adds up the syndromes S1, S3, S5 (`syndrome`), finds the positions to flip (`locate`) and only then writes (`repair`). The
+// soft stage ranks the symbols (`ranking`), has the syndromes and the weight of each test word without writing it out (`tests`),
+// locates and weighs one test word after the other (`search`, `weighing`) and only then writes (`decision`). What has a `requires` is in
+// private modules.
 ghost use mathlib.Core.Path.{_≡_};
 ghost use Rattle.bch.specs.Code.{code};
 ghost use Rattle.take_format.specs.Calls.{hardAnswer, hardBuffer, softAnswer, softBuffer};
