@@ -1,7 +1,5 @@
 // A slow search for the soft stage, written from document 01's sentences and from nothing else. It prints what the program
-// `test_soft` has to print. Run it in this folder:
-//
-//     rustc -O -o /tmp/slow slow.rs && /tmp/slow > stdout
+// `test_soft` has to print; `tools/slow` runs it and compares.
 //
 // For each test word it looks at every set of at most t positions: twenty seconds in all. How many words of some kinds
 // occurred goes to standard error.
