@@ -26,8 +26,8 @@ use Rattle.chase.proofs.TestSums.{packedSums, sums-high}
 use Rattle.chase.proofs.Weights.{Weighs, packedWeight, unpacked, distance-most, distance-same, weigh-out, weigh-back, weight-high}
 use Rattle.chase.proofs.Doublings.{Doubled, Holds, Small, holds-one, doubled-holds}
 
--- ss are symbols, the first of eight keys ks are their least, and p is a depth: enough for p weak positions and for A at distance d
-pub record Ready (d : ℕ) (ss ks : List ℕ) (p : ℕ) : Type 0 where
+-- ss are symbols, the first of eight keys ks are their least, and p is a depth: enough for p weak positions
+pub record Ready (ss ks : List ℕ) (p : ℕ) : Type 0 where
   pub size : ℕ
   pub keys : Weakest size ss ks
   pub eight : length ks ≡ 8
@@ -36,8 +36,12 @@ pub record Ready (d : ℕ) (ss ks : List ℕ) (p : ℕ) : Type 0 where
   pub depth : p ≤ 6
   pub weak-kept : p ≤ size
   pub weak-there : p ≤ length ss
-  pub distance-kept : d ≤ size
-  pub distance-there : d ≤ length ss
+
+-- .. and enough for A at the design distance d
+pub record Deep (d : ℕ) (ss ks : List ℕ) (p : ℕ) : Type 0 where
+  pub ready : Ready ss ks p
+  pub kept : d ≤ ready .size
+  pub there : d ≤ length ss
 
 -- the positions of the first p keys
 abbrev pub placesOf : List ℕ → ℕ → List ℕ
@@ -51,7 +55,7 @@ long-places ks p h = length-map (take p ks) (λ (k : ℕ). k % 1024) ∙ length-
 pub at-places : (ks : List ℕ) (p b : ℕ) → b < p → getD (placesOf ks p) b 0 ≡ getD ks b 0 % 1024
 at-places ks p b h = List·getD-map (λ (k : ℕ). k % 1024) (take p ks) b 0 ∙ ap (λ (k : ℕ). k % 1024) (getD-take p ks b 0 h)
 
-module _ (d : ℕ) (ss ks : List ℕ) (p : ℕ) (ready : Ready d ss ks p) where
+module _ (ss ks : List ℕ) (p : ℕ) (ready : Ready ss ks p) where
   -- ---- the weak positions
 
   -- the first p keys hold them, ..
@@ -65,7 +69,7 @@ module _ (d : ℕ) (ss ks : List ℕ) (p : ℕ) (ready : Ready d ss ks p) where
   pub long-weak : length (weak p (reliabilities ss)) ≡ p
   long-weak = weak-long (ready .size) ss ks (ready .keys) p (ready .weak-kept) (ready .weak-there)
 
-  pub at-weak : (b : ℕ) → b < p → getD (weak p (reliabilities ss)) b 0 ≡ getD ks b 0 % 1024
+  at-weak : (b : ℕ) → b < p → getD (weak p (reliabilities ss)) b 0 ≡ getD ks b 0 % 1024
   at-weak = weak-at (ready .size) ss ks (ready .keys) p (ready .weak-kept) (ready .weak-there)
 
   -- .. below n, with its reliability
@@ -79,14 +83,6 @@ module _ (d : ℕ) (ss ks : List ℕ) (p : ℕ) (ready : Ready d ss ks p) where
   pub strong-unflipped : 0 < p → (j x : ℕ) → getD ks (p - 1) 0 / 1024 < getD (reliabilities ss) x 0 → isIn x (chosen j (weakest p ss)) ≡ false
   strong-unflipped h j x l =
       chosen-absent x j (weak p (reliabilities ss)) (not-weak (ready .size) ss ks (ready .keys) p (ready .weak-kept) (ready .weak-there) h x l)
-
-  -- the sum of the smallest reliabilities is small
-  pub weighed-most : (k : ℕ) → k ≤ d → weighed (take k ks) ≤ 15 * k
-  unfolding sum
-  weighed-most zero h = omega arith
-  weighed-most (suc k) h =
-      let r = ready .keys .held k (omega (arith, ready .distance-kept)) (omega (arith, ready .distance-there)) .0 in
-      omega (arith, rw add-one at (weighed-more k ks (omega (arith, ready .keys .long, ready .distance-kept))), weighed-most k (omega arith), r, reliability-lt ss (getD ks k 0 % 1024))
 
   -- ---- the syndromes and the weights of the test words
 
@@ -203,3 +199,17 @@ module _ (d : ℕ) (ss ks : List ℕ) (p : ℕ) (ready : Ready d ss ks p) where
           rw (reliability, ← same)
           (weigh-back (length ss) (reliabilities ss) (hardBits ss) (length-hard ss) (length-reliabilities ss) (bits-hard ss (ready .symbols))
           (weak p (reliabilities ss)) weak-distinct j P places a long q L old (sym (rw (← same) at h)))
+
+-- the sum of the smallest reliabilities is small
+pub weighed-most : (d : ℕ) (ss ks : List ℕ) (p : ℕ) → Deep d ss ks p → (k : ℕ) → k ≤ d → weighed (take k ks) ≤ 15 * k
+unfolding sum
+weighed-most d ss ks p deep zero h = omega arith
+weighed-most d ss ks p deep (suc k) h =
+    let r = deep .ready .keys .held k (omega (arith, deep .kept)) (omega (arith, deep .there)) .0 in
+    omega (
+      arith,
+      rw add-one at (weighed-more k ks (omega (arith, deep .ready .keys .long, deep .kept))),
+      weighed-most d ss ks p deep k (omega arith),
+      r,
+      reliability-lt ss (getD ks k 0 % 1024),
+    )

@@ -18,25 +18,25 @@ use Rattle.chase.specs.Word.{test}
 use Rattle.chase.proofs.TestSums.{packedSums}
 use Rattle.chase.proofs.Weights.{Weighs}
 use Rattle.chase.proofs.Allowances.{weighed, allowance-keys}
-use Rattle.chase.proofs.Ready.{Ready, length-tested, bits-tested}
+use Rattle.chase.proofs.Ready.{Deep, length-tested, bits-tested}
 
 same-candidate : (w : List ℕ) (j : ℕ) {q q′ L L′ A A′ : ℕ} → q ≡ q′ → L ≡ L′ → A ≡ A′
     → _≡_ {A = Candidate} (record { word = w; q = q; L = L; A = A; j = j }) (record { word = w; q = q′; L = L′; A = A′; j = j })
 same-candidate w j e f g = cc
 
 module _ (m t n : ℕ) (lawful : Lawful (code m t n)) (first second : List ℕ) (tables : RootTables m t first second) (ss ks : List ℕ) (p : ℕ)
-    (ready : Ready (2 * t + 1) ss ks p) (long : length ss ≡ n) (j s : ℕ) (packs : s ≡ packedSums m (test p ss j)) where
+    (deep : Deep (2 * t + 1) ss ks p) (long : length ss ≡ n) (j s : ℕ) (packs : s ≡ packedSums m (test p ss j)) where
   T : List ℕ
   T = test p ss j
 
   long-T : length T ≡ n
   unfolding T
-  long-T = length-tested (2 * t + 1) ss ks p ready j ∙ long
+  long-T = length-tested ss ks p (deep .ready) j ∙ long
 
   -- the parts of the packed number are elements
   pub try-parts : (s % 1024 < 2 ^ m) × (s / 1024 % 1024 < 2 ^ m) × (s / 1048576 < 2 ^ m)
   unfolding T
-  try-parts = parts-lt (code m t n) lawful first second tables T long-T (bits-tested (2 * t + 1) ss ks p ready j) s packs
+  try-parts = parts-lt (code m t n) lawful first second tables T long-T (bits-tested ss ks p (deep .ready) j) s packs
 
   module _ (found : Bool) (count : ℕ) (ps : List ℕ)
       (e : positions found count ps ≡ located m t n (at first) (at first) (at second) (s % 1024) (s / 1024 % 1024) (s / 1048576)) where
@@ -45,13 +45,13 @@ module _ (m t n : ℕ) (lawful : Lawful (code m t n)) (first second : List ℕ) 
     unfolding T tried
     try-none z =
         ap (Option·map (candidate (code m t n) p ss j))
-        (none-repaired (code m t n) lawful first second tables T long-T (bits-tested (2 * t + 1) ss ks p ready j) s packs found count ps e z)
+        (none-repaired (code m t n) lawful first second tables T long-T (bits-tested ss ks p (deep .ready) j) s packs found count ps e z)
 
     module _ (z : found ≡ true) where
       -- what is located is distinct
       pub try-distinct : Distinct n (take count ps)
       unfolding T
-      try-distinct = found-distinct (code m t n) lawful first second tables T long-T (bits-tested (2 * t + 1) ss ks p ready j) s packs found count ps e z
+      try-distinct = found-distinct (code m t n) lawful first second tables T long-T (bits-tested ss ks p (deep .ready) j) s packs found count ps e z
 
       -- a candidate, weighed
       pub try-some : (q L A : ℕ) → Weighs (reliabilities ss) (flippedAt (take count ps) (test p ss j)) (hardBits ss) q L → A ≡ weighed (take (2 * t + 1 - q) ks)
@@ -61,6 +61,6 @@ module _ (m t n : ℕ) (lawful : Lawful (code m t n)) (first second : List ℕ) 
       try-some q L A w a =
           let c = flippedAt (take count ps) (test p ss j) in
           ap (Option·map (candidate (code m t n) p ss j))
-          (found-repaired (code m t n) lawful first second tables T long-T (bits-tested (2 * t + 1) ss ks p ready j) s packs found count ps e z)
+          (found-repaired (code m t n) lawful first second tables T long-T (bits-tested ss ks p (deep .ready) j) s packs found count ps e z)
           ∙ ap some (sym (same-candidate c j (w .count) (w .sum)
-          (a ∙ allowance-keys (ready .size) (2 * t + 1) q ss ks c (ready .keys) (omega (arith, ready .distance-kept)) (omega (arith, ready .distance-there)) (w .count))))
+          (a ∙ allowance-keys (deep .ready .size) (2 * t + 1) q ss ks c (deep .ready .keys) (omega (arith, deep .kept)) (omega (arith, deep .there)) (w .count))))

@@ -1,7 +1,7 @@
 // The soft stage of one word: rank, search, and only then write.
 ghost use mathlib.Core.Path.{_≡_};
 ghost use mathlib.Core.Logic.{inr};
-ghost use Prim.Native.Nat.{ℕ, _-_, _*_, _+_, _^_, _<_, _≤_};
+ghost use Prim.Native.Nat.{_-_, _*_, _+_, _^_, _<_, _≤_};
 ghost use lib.IntN.{subℕ};
 ghost use lib.ListN.{length, take};
 ghost use Rattle.galois.proofs.FieldTables.{FieldTables};
@@ -12,7 +12,7 @@ ghost use Rattle.bch.proofs.RootTables.{RootTables};
 ghost use Rattle.bch.proofs.Placing.{Placed};
 ghost use Rattle.chase.specs.Soft.{hardBits, testWord, softStage, softWritten};
 ghost use Rattle.chase.specs.Word.{test, Symbols};
-ghost use Rattle.chase.proofs.Ready.{Ready, placesOf};
+ghost use Rattle.chase.proofs.Ready.{Ready, Deep, placesOf};
 ghost use Rattle.take_format.proofs.RefusalLaws.{SoftAccepted};
 ghost use Rattle.receiver.specs.Answer.{softOf};
 ghost use Rattle.receiver.specs.Search.{outcomeOf, Sound, told};
@@ -60,8 +60,8 @@ fn flip_weak(out: &mut [u8], keys: Keys, p: usize, j: usize)
 }
 
 // The codeword of a candidate: test word j flipped at f.
-fn write_word(d: usize, s: &[u8], keys: Keys, p: usize, j: usize, f: Flips, out: &mut [u8])
-    requires { ⌜ Ready d (now s) (keys .at) p ⌝ }
+fn write_word(s: &[u8], keys: Keys, p: usize, j: usize, f: Flips, out: &mut [u8])
+    requires { ⌜ Ready (now s) (keys .at) p ⌝ }
     requires { ⌜ (length (now out) ≡ length (now s)) × Placed (length (now s)) (f .count) (f .at) ⌝ }
     ensures { λ _. ⌜ now (out .exit) ≡ flippedAt (take (f .count) (f .at)) (test p (now (s .entry)) j) ⌝ }
 {
@@ -133,15 +133,14 @@ fn find(
 ) -> Outcome
     requires { ⌜ FieldTables m (now exps) (now logs) (now powers) ⌝ }
     requires { ⌜ RootTables m t (now first) (now second) ⌝ }
-    requires { ⌜ Lawful (code m t n) × (period ≡ 2 ^ m - 1) × (length (now s) ≡ n) × Ready (2 * t + 1) (now s) (keys .at) p ⌝ }
+    requires { ⌜ Lawful (code m t n) × (period ≡ 2 ^ m - 1) × (length (now s) ≡ n) × Deep (2 * t + 1) (now s) (keys .at) p ⌝ }
     ensures { λ r. ⌜ (outcomeOf p (now (s .entry)) r ≡ softStage (code m t n) p (now (s .entry))) × Sound n (r .pick) ⌝ }
 {
-    let d = 2 * t + 1;
     let base = syndrome::of_symbols(m, powers, s);
     let mut sums = [0u32; 64];
-    let all = tests::fill_sums(m, d, powers, s, keys, p, base, &mut sums);
+    let all = tests::fill_sums(m, powers, s, keys, p, base, &mut sums);
     let mut weights = [0u32; 64];
-    tests::fill_weights(d, s, keys, p, &mut weights);
+    tests::fill_weights(s, keys, p, &mut weights);
     let mut allowed = [0u32; 9];
     weighing::fill_allowed(keys, &mut allowed);
     search::search(
@@ -207,7 +206,7 @@ pub fn decode_with(
     if !found {
         return answer;
     }
-    write_word(d, s, keys, p, o.pick.place, o.pick.flips, codeword);
+    write_word(s, keys, p, o.pick.place, o.pick.flips, codeword);
     answer
 }
 

@@ -13,7 +13,7 @@ ghost use Rattle.chase.proofs.Doublings.{Holds};
 ghost use Rattle.chase.proofs.TestSums.{packedSums};
 ghost use Rattle.chase.proofs.Weights.{packedWeight};
 ghost use Rattle.chase.proofs.Allowances.{weighed};
-ghost use Rattle.chase.proofs.Ready.{Ready};
+ghost use Rattle.chase.proofs.Ready.{Deep};
 ghost use Rattle.receiver.specs.Search.{pickOf, outcomeOf, betterPick, Sound};
 use crate::locate;
 use crate::locate::Flips;
@@ -70,7 +70,7 @@ fn attempt(
 ) -> Pick
     requires { ⌜ FieldTables m (now exps) (now logs) (now powers) ⌝ }
     requires { ⌜ RootTables m t (now first) (now second) ⌝ }
-    requires { ⌜ Lawful (code m t n) × (period ≡ 2 ^ m - 1) × (length (now s) ≡ n) × Ready (2 * t + 1) (now s) (keys .at) p ⌝ }
+    requires { ⌜ Lawful (code m t n) × (period ≡ 2 ^ m - 1) × (length (now s) ≡ n) × Deep (2 * t + 1) (now s) (keys .at) p ⌝ }
     requires { ⌜ (9 ≤ length (now allowed)) × Holds (λ (k : ℕ). weighed (take k (keys .at))) 9 (now allowed) ⌝ }
     requires { ⌜ (sums ≡ packedSums m (test p (now s) j)) × (weight ≡ packedWeight (reliabilities (now s)) (test p (now s) j) (hardBits (now s))) ⌝ }
     ensures { λ r. ⌜ pickOf p (now (s .entry)) r ≡ Option·map (candidate (code m t n) p (now (s .entry)) j) (tried (code m t n) p (now (s .entry)) j) ⌝ }
@@ -82,7 +82,7 @@ fn attempt(
         return nothing(j, f);
     }
     let d = 2 * t + 1;
-    let w = weighing::weigh(d, s, keys, p, j, weight, f);
+    let w = weighing::weigh(s, keys, p, j, weight, f);
     let a = weighing::allowed_at(keys, allowed, d, w.q);
     Pick {
         q: w.q,
@@ -128,7 +128,7 @@ pub fn search(
 ) -> Outcome
     requires { ⌜ FieldTables m (now exps) (now logs) (now powers) ⌝ }
     requires { ⌜ RootTables m t (now first) (now second) ⌝ }
-    requires { ⌜ Lawful (code m t n) × (period ≡ 2 ^ m - 1) × (length (now s) ≡ n) × Ready (2 * t + 1) (now s) (keys .at) p ⌝ }
+    requires { ⌜ Lawful (code m t n) × (period ≡ 2 ^ m - 1) × (length (now s) ≡ n) × Deep (2 * t + 1) (now s) (keys .at) p ⌝ }
     requires { ⌜ (9 ≤ length (now allowed)) × Holds (λ (k : ℕ). weighed (take k (keys .at))) 9 (now allowed) ⌝ }
     requires { ⌜ (all ≡ 2 ^ p) × (all ≤ 64) × (64 ≤ length (now sums)) × (64 ≤ length (now weights)) ⌝ }
     requires { ⌜ Holds (λ (j : ℕ). packedSums m (test p (now s) j)) (2 ^ p) (now sums) ⌝ }

@@ -42,7 +42,6 @@ fn double_add(out: &mut [u32], size: usize, v: u32)
 // S1, S3 and S5 of every test word, in one number each, and how many test words there are; base is those of the hard bits.
 pub fn fill_sums(
     m: usize,
-    d: usize,
     powers: &[u32],
     s: &[u8],
     keys: Keys,
@@ -51,7 +50,7 @@ pub fn fill_sums(
     out: &mut [u32],
 ) -> usize
     requires { ⌜ (5 ≤ m) × (m ≤ 10) × (2 ^ m ≤ length (now powers)) × Powers m (now powers) ⌝ }
-    requires { ⌜ Ready d (now s) (keys .at) p ⌝ }
+    requires { ⌜ Ready (now s) (keys .at) p ⌝ }
     requires { ⌜ (length (now s) ≤ 2 ^ m - 1) × (64 ≤ length (now out)) × (base ≡ packedSums m (hardBits (now s))) ⌝ }
     ensures { λ r. ⌜ (r ≡ 2 ^ p) × (r ≤ 64) × Holds (λ (j : ℕ). packedSums m (test p (now (s .entry)) j)) (2 ^ p) (now (out .exit)) ⌝ }
     ensures { λ _. ⌜ length (now (out .exit)) ≡ length (now (out .entry)) ⌝ }
@@ -71,8 +70,8 @@ pub fn fill_sums(
 }
 
 // The flips and the distance of every test word from the hard bits, 65536 times the one plus the other.
-pub fn fill_weights(d: usize, s: &[u8], keys: Keys, p: usize, out: &mut [u32])
-    requires { ⌜ Ready d (now s) (keys .at) p ⌝ }
+pub fn fill_weights(s: &[u8], keys: Keys, p: usize, out: &mut [u32])
+    requires { ⌜ Ready (now s) (keys .at) p ⌝ }
     requires { ⌜ 64 ≤ length (now out) ⌝ }
     ensures { λ _. ⌜ Holds (λ (j : ℕ). packedWeight (reliabilities (now (s .entry))) (test p (now (s .entry)) j) (hardBits (now (s .entry)))) (2 ^ p) (now (out .exit)) ⌝ }
     ensures { λ _. ⌜ length (now (out .exit)) ≡ length (now (out .entry)) ⌝ }

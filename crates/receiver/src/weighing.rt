@@ -9,7 +9,7 @@ ghost use Rattle.chase.proofs.Doublings.{Holds};
 ghost use Rattle.chase.proofs.TestWords.{chosen};
 ghost use Rattle.chase.proofs.Weights.{Weighs, packedWeight};
 ghost use Rattle.chase.proofs.Allowances.{weighed};
-ghost use Rattle.chase.proofs.Ready.{Ready};
+ghost use Rattle.chase.proofs.Ready.{Ready, placesOf};
 use crate::locate::Flips;
 use crate::ranking;
 use crate::ranking::Keys;
@@ -49,10 +49,10 @@ fn z_at(s: &[u8], x: usize) -> u32
     (s[x] % 16) as u32
 }
 
-// Whether position x is among the weak ones that test word j flips.
-fn chosen_at(d: usize, s: &[u8], keys: Keys, p: usize, j: usize, x: usize) -> bool
-    requires { ⌜ Ready d (now s) (keys .at) p ⌝ }
-    ensures { λ r. ⌜ r ≡ isIn x (chosen j (weakest p (now (s .entry)))) ⌝ }
+// Whether position x is among those of the first p keys that test word j flips.
+fn chosen_at(keys: Keys, p: usize, j: usize, x: usize) -> bool
+    requires { ⌜ (p ≤ 8) × (length (keys .at) ≡ 8) ⌝ }
+    ensures { λ r. ⌜ r ≡ isIn x (chosen j (placesOf (keys .at) p)) ⌝ }
 {
     let at = keys.at;
     let mut r = j;
@@ -70,8 +70,8 @@ fn chosen_at(d: usize, s: &[u8], keys: Keys, p: usize, j: usize, x: usize) -> bo
 }
 
 // Whether test word j flips position x, of reliability z. (A position that is stronger than the last weak one needs no search.)
-fn flipped(d: usize, s: &[u8], keys: Keys, p: usize, j: usize, x: usize, z: u32) -> bool
-    requires { ⌜ Ready d (now s) (keys .at) p ⌝ }
+fn flipped(s: &[u8], keys: Keys, p: usize, j: usize, x: usize, z: u32) -> bool
+    requires { ⌜ Ready (now s) (keys .at) p ⌝ }
     requires { ⌜ z ≡ getD (reliabilities (now s)) x 0 ⌝ }
     ensures { λ r. ⌜ r ≡ isIn x (chosen j (weakest p (now (s .entry)))) ⌝ }
 {
@@ -82,7 +82,7 @@ fn flipped(d: usize, s: &[u8], keys: Keys, p: usize, j: usize, x: usize, z: u32)
     if ranking::held(at[p - 1]) < z {
         return false;
     }
-    chosen_at(d, s, keys, p, j, x)
+    chosen_at(keys, p, j, x)
 }
 
 // The flips q and the distance L of a candidate.
@@ -93,8 +93,8 @@ pub struct Weight {
 
 // q and L of test word j flipped at f, against the hard bits: from `start`, those of the test word, each position of f adds its flip,
 // or takes it away where the test word flips it already.
-pub fn weigh(d: usize, s: &[u8], keys: Keys, p: usize, j: usize, start: u32, f: Flips) -> Weight
-    requires { ⌜ Ready d (now s) (keys .at) p ⌝ }
+pub fn weigh(s: &[u8], keys: Keys, p: usize, j: usize, start: u32, f: Flips) -> Weight
+    requires { ⌜ Ready (now s) (keys .at) p ⌝ }
     requires { ⌜ (f .count ≤ 3) × (length (f .at) ≡ 3) × Distinct (length (now s)) (take (f .count) (f .at)) ⌝ }
     requires { ⌜ start ≡ packedWeight (reliabilities (now s)) (test p (now s) j) (hardBits (now s)) ⌝ }
     ensures { λ r. ⌜ Weighs (reliabilities (now (s .entry))) (flippedAt (take (f .count) (f .at)) (test p (now (s .entry)) j)) (hardBits (now (s .entry))) (r .q) (r .sum) ⌝ }
@@ -107,7 +107,7 @@ pub fn weigh(d: usize, s: &[u8], keys: Keys, p: usize, j: usize, start: u32, f: 
     while a < count {
         let x = places[a];
         let z = z_at(s, x);
-        if flipped(d, s, keys, p, j, x, z) {
+        if flipped(s, keys, p, j, x, z) {
             q -= 1;
             sum -= z;
         } else {

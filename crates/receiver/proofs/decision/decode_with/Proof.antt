@@ -5,7 +5,7 @@ use mathlib.Core.Path.{sym, _∙_}
 use borrow.Author.Needs.{needs}
 use borrow.Author.Tests.{not-true, not-false}
 use lib.ListN.{length}
-use Rattle.chase.proofs.Ready.{Ready}
+use Rattle.chase.proofs.Ready.{Deep}
 use Rattle.receiver.proofs.Tellings.{answer-told, written-none, written-some}
 use Rattle.receiver.proofs.decision.decode_with.Statement.{statement}
 use Rattle.receiver.proofs.decision.decode_with.Tie as tie
@@ -15,22 +15,24 @@ few : (s : tie.Start) → length (s .args .s .now) ≤ 1023
 few s = omega (arith, s .pre .0 .size-most, s .pre .1 .1 .0 .0 .n-most, s .pre .1 .1 .1 .3)
 
 -- the word is ready once it is ranked
-ready : (c : tie.After-rank) → Ready (2 * c .before .before .before .before .before .before .before .before .before .args .t + 1) (c .before .before .before .before .before .before .before .before .before .args .s .now) (c .rank .result .at) (c .before .before .before .before .before .before .before .before .before .args .p)
-ready c =
+deep : (c : tie.After-rank) → Deep (2 * c .before .before .before .before .before .before .before .before .before .args .t + 1) (c .before .before .before .before .before .before .before .before .before .args .s .now) (c .rank .result .at) (c .before .before .before .before .before .before .before .before .before .args .p)
+deep c =
     let s = c .before .before .before .before .before .before .before .before .before in
     let n = s .pre .1 .1 .1 in
     let m = c .before .more in
     record {
-      size = m .result;
-      keys = c .rank .ensures .1;
-      eight = c .rank .ensures .0;
-      symbols = n .5;
-      most = few s;
-      depth = n .2;
-      weak-kept = m .ensures .1;
-      weak-there = omega (arith, n .0, n .2, n .3);
-      distance-kept = m .ensures .0;
-      distance-there = omega (arith, n .1, n .3);
+      ready = record {
+        size = m .result;
+        keys = c .rank .ensures .1;
+        eight = c .rank .ensures .0;
+        symbols = n .5;
+        most = few s;
+        depth = n .2;
+        weak-kept = m .ensures .1;
+        weak-there = omega (arith, n .0, n .2, n .3);
+      };
+      kept = m .ensures .0;
+      there = omega (arith, n .1, n .3);
     }
 
 mul-d : tie.Need-mul-d
@@ -55,7 +57,7 @@ find-requires : tie.Need-find-requires
 find-requires c κs =
     let s = c .before .before .before .before .before .before .before .before .before in
     let l = s .pre .1 .1 .0 in
-    (s .pre .0, (s .pre .1 .0, (l .0, l .1, s .pre .1 .1 .1 .3, ready c)))
+    (s .pre .0, (s .pre .1 .0, (l .0, l .1, s .pre .1 .1 .1 .3, deep c)))
 
 tell-requires : tie.Need-tell-requires
 tell-requires c κs = (c .find .ensures .1 .sum-small, c .find .ensures .1 .allowed-small)
@@ -71,7 +73,7 @@ write-word-requires : tie.Need-write-word-requires
 write-word-requires c κs =
     let s = c .before .before .before .before .before .before .before .before .before .before .before .before .before in
     let n = s .pre .1 .1 .1 in
-    (ready (c .before .before .before .before), (n .4 ∙ sym (n .3), rw (n .3) (c .before .before .before .find .ensures .1 .placed)))
+    (deep (c .before .before .before .before) .ready, (n .4 ∙ sym (n .3), rw (n .3) (c .before .before .before .find .ensures .1 .placed)))
 
 same-length : tie.Need-same-length
 same-length c = search needs

@@ -17,16 +17,10 @@ powers-of s =
 inside : (s : tie.Start) → length (s .args .s .now) ≤ 2 ^ s .args .m - 1
 inside s = omega (arith, s .pre .1 .1 .0 .n-most, s .pre .1 .1 .2)
 
-mul-d : tie.Need-mul-d
-mul-d c = omega (arith, c .before .before .before .before .before .before .pre .1 .1 .0 .t-most)
-
-add-d : tie.Need-add-d
-add-d c = omega (arith, c .before .before .before .before .before .before .pre .1 .1 .0 .t-most)
-
 of-symbols-requires : tie.Need-of-symbols-requires
 of-symbols-requires c κs =
     let s = c .before .before .before .before .before .before in
-    (powers-of s, (inside s, s .pre .1 .1 .3 .symbols))
+    (powers-of s, (inside s, s .pre .1 .1 .3 .ready .symbols))
 
 slice-aggregate-fill-sums : tie.Need-slice-aggregate-fill-sums
 slice-aggregate-fill-sums c = search needs
@@ -34,19 +28,19 @@ slice-aggregate-fill-sums c = search needs
 fill-sums-requires : tie.Need-fill-sums-requires
 fill-sums-requires c κs =
     let s = c .before .before .before .before .before .before .before .before in
-    (powers-of s, (s .pre .1 .1 .3, (inside s, omega arith, c .before .of-symbols .ensures)))
+    (powers-of s, (s .pre .1 .1 .3 .ready, (inside s, omega arith, c .before .of-symbols .ensures)))
 
 slice-aggregate-fill-weights : tie.Need-slice-aggregate-fill-weights
 slice-aggregate-fill-weights c = search needs
 
 fill-weights-requires : tie.Need-fill-weights-requires
-fill-weights-requires c κs = (c .before .before .before .before .before .before .before .before .before .before .before .pre .1 .1 .3, omega arith)
+fill-weights-requires c κs = (c .before .before .before .before .before .before .before .before .before .before .before .pre .1 .1 .3 .ready, omega arith)
 
 slice-aggregate-fill-allowed : tie.Need-slice-aggregate-fill-allowed
 slice-aggregate-fill-allowed c = search needs
 
 fill-allowed-requires : tie.Need-fill-allowed-requires
-fill-allowed-requires c κs = (c .before .before .before .before .before .before .before .before .before .before .before .before .before .before .pre .1 .1 .3 .eight, omega arith)
+fill-allowed-requires c κs = (c .before .before .before .before .before .before .before .before .before .before .before .before .before .before .pre .1 .1 .3 .ready .eight, omega arith)
 
 slice-aggregate-search : tie.Need-slice-aggregate-search
 slice-aggregate-search c = search needs
@@ -72,8 +66,6 @@ pub find-spec : {M : Type 1} → statement M
 find-spec =
     tie.close
     (tie.spec
-    mul-d
-    add-d
     of-symbols-requires
     slice-aggregate-fill-sums
     fill-sums-requires

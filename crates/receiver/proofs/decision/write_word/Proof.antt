@@ -23,7 +23,7 @@ flip-weak-requires c κs =
       rw (w .ensures) (bits-hard (a .s .now) (ready .symbols)),
       h,
       ready .eight,
-      rw (l, places-weak (a .d) (a .s .now) (a .keys .at) (a .p) ready) (weak-distinct (a .d) (a .s .now) (a .keys .at) (a .p) ready),
+      rw (l, places-weak (a .s .now) (a .keys .at) (a .p) ready) (weak-distinct (a .s .now) (a .keys .at) (a .p) ready),
     )
 
 flip-at-requires : tie.Need-flip-at-requires
@@ -49,7 +49,7 @@ returns c =
     let a = s .args in
     let w = c .before .before .before .before .before .before .before .before .before .before .write-bits in
     let f = c .before .before .before .before .before .before .flip-weak in
-    rw (c .before .before .flip-at .ensures, f .ensures, w .ensures, places-weak (a .d) (a .s .now) (a .keys .at) (a .p) (s .pre .0))
+    rw (c .before .before .flip-at .ensures, f .ensures, w .ensures, places-weak (a .s .now) (a .keys .at) (a .p) (s .pre .0))
 
 pub write-word-spec : {M : Type 1} → statement M
 write-word-spec =

@@ -52,13 +52,13 @@ weigh-requires c κs =
     let r = f .result in
     let z = not-false _ (c .if1 .left) in
     let d : Distinct (length (a .s .now)) (flipsOf r) = rw (s .pre .1 .1 .0 .2) (try-distinct (a .m) (a .t) (a .n) (s .pre .1 .1 .0 .0) (a .first .now) (a .second .now) (s .pre .1 .0) (a .s .now) (a .keys .at) (a .p) (s .pre .1 .1 .0 .3) (s .pre .1 .1 .0 .2) (a .j) (a .sums) (s .pre .1 .1 .1 .1 .0) (r .found) (r .count) (r .at) (f .ensures .0) z) in
-    (s .pre .1 .1 .0 .3, ((f .ensures .1 .few, f .ensures .1 .long, d), s .pre .1 .1 .1 .1 .1))
+    (s .pre .1 .1 .0 .3 .ready, ((f .ensures .1 .few, f .ensures .1 .long, d), s .pre .1 .1 .1 .1 .1))
 
 allowed-at-requires : tie.Need-allowed-at-requires
 allowed-at-requires c κs =
     let s = c .before .before .before .before .before .before .before .before .before .before in
     let d : 2 * s .args .t + 1 ≤ 8 = omega (arith, s .pre .1 .1 .0 .0 .t-most) in
-    (d, s .pre .1 .1 .0 .3 .eight, s .pre .1 .1 .1 .0 .0, s .pre .1 .1 .1 .0 .1)
+    (d, s .pre .1 .1 .0 .3 .ready .eight, s .pre .1 .1 .1 .0 .0, s .pre .1 .1 .1 .0 .1)
 
 returns-2 : tie.Need-returns-2
 returns-2 c =
@@ -69,8 +69,8 @@ returns-2 c =
     let z = not-false _ (c .before .before .if1 .left) in
     let w = c .before .weigh in
     let small =
-    weighs-small (a .s .now) _ (w .result .q) (w .result .sum) (s .pre .1 .1 .0 .3 .most)
-    (length-candidate (2 * a .t + 1) (a .s .now) (a .keys .at) (a .p) (s .pre .1 .1 .0 .3) (a .j) (flipsOf r)) (w .ensures) in (
+    weighs-small (a .s .now) _ (w .result .q) (w .result .sum) (s .pre .1 .1 .0 .3 .ready .most)
+    (length-candidate (a .s .now) (a .keys .at) (a .p) (s .pre .1 .1 .0 .3 .ready) (a .j) (flipsOf r)) (w .ensures) in (
       pick-some (a .p) (a .s .now) _ z
           ∙ sym (try-some (a .m) (a .t) (a .n) (s .pre .1 .1 .0 .0) (a .first .now) (a .second .now) (s .pre .1 .0) (a .s .now) (a .keys .at) (a .p) (s .pre .1 .1 .0 .3) (s .pre .1 .1 .0 .2) (a .j) (a .sums) (s .pre .1 .1 .1 .1 .0) (r .found) (r .count) (r .at) (f .ensures .0) z (w .result .q) (w .result .sum) (c .allowed-at .result) (w .ensures) (c .allowed-at .ensures)),
       record { placed = f .ensures .1; sum-small = omega (arith, small .1); allowed-small = omega (arith, s .pre .1 .1 .0 .0 .t-most, c .allowed-at .ensures, weighed-most (2 * a .t + 1) (a .s .now) (a .keys .at) (a .p) (s .pre .1 .1 .0 .3) (2 * a .t + 1 - w .result .q) (omega arith)) },

@@ -17,11 +17,11 @@ use Rattle.receiver.proofs.tests.fill_sums.Statement.{statement}
 use Rattle.receiver.proofs.tests.fill_sums.Tie as tie
 
 abbrev Inv-loop : tie.InvT-loop
-Inv-loop m d powers s p base out₀ at size₀ b₀ out size b =
+Inv-loop m powers s p base out₀ at size₀ b₀ out size b =
     (b ≤ p) × (size ≡ 2 ^ b) × (length out ≡ length out₀) × Holds (λ (j : ℕ). packedSums m (test p s j)) (2 ^ b) out
 
 abbrev μ-loop : tie.MeasureT-loop
-μ-loop m d powers s p base out₀ at size₀ b₀ out size b = p - b
+μ-loop m powers s p base out₀ at size₀ b₀ out size b = p - b
 
 slice-write-out : tie.Need-slice-write-out Inv-loop μ-loop
 slice-write-out c = omega arith
@@ -33,7 +33,7 @@ loop-holds c =
       omega arith,
       refl,
       refl,
-      sums-first (a .d) (a .s .now) (a .keys .at) (a .p) (s .pre .1 .0) (a .m) (a .base) (a .out .now) (s .pre .1 .1 .1) (s .pre .1 .1 .2),
+      sums-first (a .s .now) (a .keys .at) (a .p) (s .pre .1 .0) (a .m) (a .base) (a .out .now) (s .pre .1 .1 .1) (s .pre .1 .1 .2),
     )
 
 mul-place-of : tie.Need-mul-place-of Inv-loop μ-loop
@@ -56,7 +56,7 @@ shared-slice-read-v c =
     omega (
       arith,
       c .before .place-of .ensures,
-      key-below (a .d) (a .s .now) (a .keys .at) (a .p) (s .pre .1 .0) (l .b) (omega arith),
+      key-below (a .s .now) (a .keys .at) (a .p) (s .pre .1 .0) (l .b) (omega arith),
       s .pre .0 .2,
       s .pre .1 .1 .0,
     )
@@ -96,11 +96,11 @@ loop-again c =
     let d = c .before .before .double-xor .ensures in
     let x = q .place-of in
     let h : x .result < 2 ^ a .m - 1
-    = omega (arith, x .ensures, key-below (a .d) (a .s .now) (a .keys .at) (a .p) ready (l .b) (omega arith), s .pre .1 .1 .0) in (
+    = omega (arith, x .ensures, key-below (a .s .now) (a .keys .at) (a .p) ready (l .b) (omega arith), s .pre .1 .1 .0) in (
       omega arith,
       rw (add-one, pow-succ' 2 (l .b), l .inv .1) refl,
       d .long ∙ l .inv .2,
-      sums-next (a .d) (a .s .now) (a .keys .at) (a .p) ready (a .m) (primitive-5-10 _ (f .0) (f .1)) (f .1) (l .b) (l .size) _ (l .out) _
+      sums-next (a .s .now) (a .keys .at) (a .p) ready (a .m) (primitive-5-10 _ (f .0) (f .1)) (f .1) (l .b) (l .size) _ (l .out) _
           (omega arith) (l .inv .1) (f .3 (x .result) h ∙ ap (powersOf (a .m)) (x .ensures)) d (l .inv .3),
     )
 

@@ -15,12 +15,12 @@ use Rattle.receiver.proofs.tests.fill_weights.Statement.{statement}
 use Rattle.receiver.proofs.tests.fill_weights.Tie as tie
 
 abbrev Inv-loop : tie.InvT-loop
-Inv-loop d s p out₀ at size₀ b₀ out size b =
+Inv-loop s p out₀ at size₀ b₀ out size b =
     (b ≤ p) × (size ≡ 2 ^ b) × (length out ≡ length out₀)
     × Holds (λ (j : ℕ). packedWeight (reliabilities s) (test p s j) (hardBits s)) (2 ^ b) out
 
 abbrev μ-loop : tie.MeasureT-loop
-μ-loop d s p out₀ at size₀ b₀ out size b = p - b
+μ-loop s p out₀ at size₀ b₀ out size b = p - b
 
 slice-write-out : tie.Need-slice-write-out Inv-loop μ-loop
 slice-write-out c = omega arith
@@ -29,7 +29,7 @@ loop-holds : tie.Need-loop-holds Inv-loop μ-loop
 loop-holds c =
     let s = c .before .before .before in
     let a = s .args in
-    (omega arith, refl, refl, weights-first (a .d) (a .s .now) (a .keys .at) (a .p) (s .pre .0) (a .out .now) (s .pre .1))
+    (omega arith, refl, refl, weights-first (a .s .now) (a .keys .at) (a .p) (s .pre .0) (a .out .now) (s .pre .1))
 
 mul-held : tie.Need-mul-held Inv-loop μ-loop
 mul-held c = omega arith
@@ -53,7 +53,7 @@ double-add-requires c κs =
     let z : 65536 + c .before .held .result < 131072 = omega (arith, c .before .held .ensures .1) in
     let h : Holds (λ (j : ℕ). packedWeight (reliabilities (a .s .now)) (test (a .p) (a .s .now) j) (hardBits (a .s .now))) (l .size) (l .out)
     = rw (l .inv .1) (l .inv .3) in
-    (g, (z, weights-small (a .d) (a .s .now) (a .keys .at) (a .p) (s .pre .0) (l .size) (l .out) h))
+    (g, (z, weights-small (a .s .now) (a .keys .at) (a .p) (s .pre .0) (l .size) (l .out) h))
 
 mul-size : tie.Need-mul-size Inv-loop μ-loop
 mul-size c = omega (arith, size-most (c .before .before .before .before .before .before .loop .b) (omega arith))
@@ -74,7 +74,7 @@ loop-again c =
       omega arith,
       rw (add-one, pow-succ' 2 (l .b), l .inv .1) refl,
       d .long ∙ l .inv .2,
-      weights-next (a .d) (a .s .now) (a .keys .at) (a .p) (s .pre .0) (l .b) (l .size) _ (l .out) _ (omega arith) (l .inv .1) (q .held .ensures .0) d
+      weights-next (a .s .now) (a .keys .at) (a .p) (s .pre .0) (l .b) (l .size) _ (l .out) _ (omega arith) (l .inv .1) (q .held .ensures .0) d
           (l .inv .3),
     )
 

@@ -1,13 +1,15 @@
 -- A position that is stronger than the last weak one is not flipped. Assumes nothing.
-use Prim.Native.Nat.{_-_, _/_, _<_}
+use Prim.Native.Nat.{ℕ, _-_, _/_, _≤_, _<_}
 use native.Mathlib.Omega.{arith}
-use mathlib.Core.Path.{sym, _∙_}
+use mathlib.Core.Path.{ap, sym, _∙_}
+use mathlib.Core.List.{List}
 use borrow.Author.Needs.{needs}
 use lib.ListN.{getD}
+use Rattle.bch.specs.Words.{isIn}
 use Rattle.chase.specs.Soft.{reliabilities}
 use Rattle.chase.specs.Word.{weakest}
-use Rattle.chase.proofs.TestWords.{chosen-end}
-use Rattle.chase.proofs.Ready.{long-weak, strong-unflipped}
+use Rattle.chase.proofs.TestWords.{chosen, chosen-end}
+use Rattle.chase.proofs.Ready.{places-weak, long-weak, strong-unflipped}
 use Rattle.receiver.proofs.weighing.flipped.Statement.{statement}
 use Rattle.receiver.proofs.weighing.flipped.Tie as tie
 
@@ -15,7 +17,7 @@ returns : tie.Need-returns
 returns c =
     let s = c .before .before in
     let a = s .args in
-    sym (chosen-end (a .x) (a .j) 0 (weakest (a .p) (a .s .now)) (sym (long-weak (a .d) (a .s .now) (a .keys .at) (a .p) (s .pre .0) ∙ c .if1 .taken)))
+    sym (chosen-end (a .x) (a .j) 0 (weakest (a .p) (a .s .now)) (sym (long-weak (a .s .now) (a .keys .at) (a .p) (s .pre .0) ∙ c .if1 .taken)))
 
 sub-held : tie.Need-sub-held
 sub-held c = omega arith
@@ -37,13 +39,19 @@ returns-2 c =
     let a = s .args in
     let l = c .if2 .taken in
     let h : getD (a .keys .at) (a .p - 1) 0 / 1024 < getD (reliabilities (a .s .now)) (a .x) 0 = omega (arith, l, c .before .held .ensures .0, s .pre .1) in
-    sym (strong-unflipped (a .d) (a .s .now) (a .keys .at) (a .p) (s .pre .0) (omega arith) (a .j) (a .x) h)
+    sym (strong-unflipped (a .s .now) (a .keys .at) (a .p) (s .pre .0) (omega arith) (a .j) (a .x) h)
 
 chosen-at-requires : tie.Need-chosen-at-requires
-chosen-at-requires c κs = c .before .before .before .before .before .pre .0
+chosen-at-requires c κs =
+    let s = c .before .before .before .before .before in
+    let h : s .args .p ≤ 8 = omega (arith, s .pre .0 .depth) in
+    (h, s .pre .0 .eight)
 
 returns-3 : tie.Need-returns-3
-returns-3 c = c .chosen-at .ensures
+returns-3 c =
+    let s = c .before .before .before .before .before .before in
+    let a = s .args in
+    c .chosen-at .ensures ∙ ap (λ (l : List ℕ). isIn (a .x) (chosen (a .j) l)) (places-weak (a .s .now) (a .keys .at) (a .p) (s .pre .0))
 
 pub flipped-spec : {M : Type 1} → statement M
 flipped-spec =

@@ -16,10 +16,10 @@ use Rattle.receiver.proofs.weighing.weigh.Statement.{statement}
 use Rattle.receiver.proofs.weighing.weigh.Tie as tie
 
 abbrev Inv-loop : tie.InvT-loop
-Inv-loop d s keys p j start places count q₀ sum₀ a₀ q sum a = (a ≤ count) × Weighs (reliabilities s) (flippedAt (take a (take count places)) (test p s j)) (hardBits s) q sum
+Inv-loop s keys p j start places count q₀ sum₀ a₀ q sum a = (a ≤ count) × Weighs (reliabilities s) (flippedAt (take a (take count places)) (test p s j)) (hardBits s) q sum
 
 abbrev μ-loop : tie.MeasureT-loop
-μ-loop d s keys p j start places count q₀ sum₀ a₀ q sum a = count - a
+μ-loop s keys p j start places count q₀ sum₀ a₀ q sum a = count - a
 
 -- the weight after the turn
 abbrev Turned : tie.After-flipped Inv-loop μ-loop → ℕ → ℕ → Type 0
@@ -37,7 +37,7 @@ back c h =
     let s = c .before .before .before .before .before .before in
     let a = s .args in
     let l = c .before .before .before .loop in
-    back-at (a .d) (a .s .now) (a .keys .at) (a .p) (s .pre .0) (a .j) (a .f .at) (a .f .count) (l .a) (l .q) (l .sum)
+    back-at (a .s .now) (a .keys .at) (a .p) (s .pre .0) (a .j) (a .f .at) (a .f .count) (l .a) (l .q) (l .sum)
     (c .before .z-at .result) (s .pre .1 .0 .2) (omega arith) (omega arith) (c .before .z-at .ensures .0) (l .inv .1) (sym h ∙ c .flipped .ensures)
 
 -- .. and at another
@@ -47,7 +47,7 @@ out c h =
     let s = c .before .before .before .before .before .before in
     let a = s .args in
     let l = c .before .before .before .loop in
-    out-at (a .d) (a .s .now) (a .keys .at) (a .p) (s .pre .0) (a .j) (a .f .at) (a .f .count) (l .a) (l .q) (l .sum)
+    out-at (a .s .now) (a .keys .at) (a .p) (s .pre .0) (a .j) (a .f .at) (a .f .count) (l .a) (l .q) (l .sum)
     (c .before .z-at .result) (s .pre .1 .0 .2) (omega arith) (omega arith) (c .before .z-at .ensures .0) (l .inv .1) (sym h ∙ c .flipped .ensures)
 
 -- the weight so far is small
@@ -57,13 +57,13 @@ few c =
     let a = s .args in
     let l = c .before .before .before .loop in
     weighs-small (a .s .now) _ (l .q) (l .sum) (s .pre .0 .most)
-    (length-candidate (a .d) (a .s .now) (a .keys .at) (a .p) (s .pre .0) (a .j) (take (l .a) (take (a .f .count) (a .f .at)))) (l .inv .1)
+    (length-candidate (a .s .now) (a .keys .at) (a .p) (s .pre .0) (a .j) (take (l .a) (take (a .f .count) (a .f .at)))) (l .inv .1)
 
 loop-holds : tie.Need-loop-holds Inv-loop μ-loop
 loop-holds c =
     let s = c .before .before in
     let a = s .args in
-    (omega arith, start-weighs (a .d) (a .s .now) (a .keys .at) (a .p) (s .pre .0) (a .j) (a .start) (take (a .f .count) (a .f .at)) (s .pre .1 .1))
+    (omega arith, start-weighs (a .s .now) (a .keys .at) (a .p) (s .pre .0) (a .j) (a .start) (take (a .f .count) (a .f .at)) (s .pre .1 .1))
 
 mul-x : tie.Need-mul-x Inv-loop μ-loop
 mul-x c = omega arith
@@ -76,7 +76,7 @@ z-at-requires c κs =
     let s = c .before .before .before .before in
     let a = s .args in
     let l = c .before .loop in
-    next-below (a .d) (a .s .now) (a .keys .at) (a .p) (s .pre .0) (a .j) (a .f .at) (a .f .count) (l .a) (l .q) (l .sum)
+    next-below (a .s .now) (a .keys .at) (a .p) (s .pre .0) (a .j) (a .f .at) (a .f .count) (l .a) (l .q) (l .sum)
     (getD (reliabilities (a .s .now)) (getD (a .f .at) (l .a) 0) 0) (s .pre .1 .0 .2) (omega arith) (omega arith) refl (l .inv .1)
 
 flipped-requires : tie.Need-flipped-requires Inv-loop μ-loop
