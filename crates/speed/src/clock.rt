@@ -1,5 +1,14 @@
 // How long a call takes.
 ghost use Prim.Native.Nat.{_≤_, _<_};
+use crate::batch;
+
+// What is timed: `encode` of a message, `decode_hard` of a word, or `decode_soft` at a depth of each
+// word of a batch.
+pub enum Call {
+    Encode,
+    Hard,
+    Soft(usize),
+}
 
 // The longest round that is told apart, in microseconds.
 const LONGEST: usize = 1000000000;
@@ -42,38 +51,46 @@ fn decode_all(m: usize, t: usize, word: &[u8], codeword: &mut [u8], calls: usize
     }
 }
 
-// Makes the calls, of `decode_hard` or of `encode`.
-fn call_all(decodes: bool, m: usize, t: usize, input: &[u8], codeword: &mut [u8], calls: usize) {
-    if decodes {
-        decode_all(m, t, input, codeword, calls);
-        return;
+// Decodes the words of the batch as often as said.
+fn batch_all(m: usize, t: usize, depth: usize, words: &[u8], codeword: &mut [u8], calls: usize) {
+    let mut left = calls;
+    while 0 < left {
+        batch::decode(m, t, depth, words, codeword);
+        left -= 1;
     }
-    encode_all(m, t, input, codeword, calls);
+}
+
+// Makes the calls.
+fn call_all(call: Call, m: usize, t: usize, input: &[u8], codeword: &mut [u8], calls: usize) {
+    match call {
+        Call::Encode => {
+            encode_all(m, t, input, codeword, calls);
+        }
+        Call::Hard => {
+            decode_all(m, t, input, codeword, calls);
+        }
+        Call::Soft(depth) => {
+            batch_all(m, t, depth, input, codeword, calls);
+        }
+    }
 }
 
 // The microseconds that the calls take.
-fn round(
-    decodes: bool,
-    m: usize,
-    t: usize,
-    input: &[u8],
-    codeword: &mut [u8],
-    calls: usize,
-) -> usize
+fn round(call: Call, m: usize, t: usize, input: &[u8], codeword: &mut [u8], calls: usize) -> usize
     ensures { λ r. ⌜ r ≤ 1000000000 ⌝ }
 {
     let start = microseconds();
-    call_all(decodes, m, t, input, codeword, calls);
+    call_all(call, m, t, input, codeword, calls);
     since(start)
 }
 
 // A number of calls that takes a round of 0.04 s.
-fn enough(decodes: bool, m: usize, t: usize, input: &[u8], codeword: &mut [u8]) -> usize
+fn enough(call: Call, m: usize, t: usize, input: &[u8], codeword: &mut [u8]) -> usize
     ensures { λ r. ⌜ 0 < r ⌝ }
 {
     let mut calls = 1;
     while calls < 1000000000 {
-        if 40000 < round(decodes, m, t, input, codeword, calls) {
+        if 40000 < round(call, m, t, input, codeword, calls) {
             return calls;
         }
         calls = 2 * calls;
@@ -81,13 +98,14 @@ fn enough(decodes: bool, m: usize, t: usize, input: &[u8], codeword: &mut [u8]) 
     calls
 }
 
-// The tenths of a nanosecond that a call takes in the best of five rounds.
-pub fn best(decodes: bool, m: usize, t: usize, input: &[u8], codeword: &mut [u8]) -> usize {
-    let calls = enough(decodes, m, t, input, codeword);
+// The tenths of a nanosecond that a call takes in the best of five rounds: for a batch, that all its
+// words take.
+pub fn best(call: Call, m: usize, t: usize, input: &[u8], codeword: &mut [u8]) -> usize {
+    let calls = enough(call, m, t, input, codeword);
     let mut least = LONGEST;
     let mut left: usize = 5;
     while 0 < left {
-        let took = round(decodes, m, t, input, codeword, calls);
+        let took = round(call, m, t, input, codeword, calls);
         if took < least {
             least = took;
         }

@@ -1,23 +1,20 @@
-// Measures the two calls. With the argument `time` it prints, for each of four codes n k t, how many
+// Measures the three calls. With the argument `time` it prints, for each of four codes n k t, how many
 // nanoseconds of processor time one call of `encode` takes, in all and for each message bit, and one
-// call of `decode_hard` on a codeword with 0, t and t + 1 errors. With no argument it makes the same
-// calls once and prints only what they answer.
+// call of `decode_hard` on a codeword with 0, t and t + 1 errors; and for two codes, two levels of
+// noise and three depths, how many one call of `decode_soft` takes, on the average over 32 noisy
+// words. With no argument it makes the same calls once and prints only what they answer.
+mod batch;
 mod clock;
+mod noise;
+mod print;
+mod soft;
 mod words;
 
 ghost use Prim.Native.Nat.{_≤_};
+use clock::Call;
 use receiver::Hard;
 use test_lines::number;
 use test_lines::text;
-
-// Writes n, k and t of the code.
-fn print_code(t: usize, message: &[u8], codeword: &[u8]) {
-    number(codeword.len());
-    text(b" ");
-    number(message.len());
-    text(b" ");
-    number(t);
-}
 
 // Encodes the message once and writes the answer.
 fn print_encode(m: usize, t: usize, message: &[u8], codeword: &mut [u8]) {
@@ -47,33 +44,18 @@ fn print_hard(m: usize, t: usize, word: &[u8], codeword: &mut [u8]) {
     }
 }
 
-// Writes a number of tenths of a nanosecond.
-fn print_tenths(tenths: usize) {
-    text(b", ");
-    number(tenths / 10);
-    text(b".");
-    number(tenths % 10);
-    text(b" ns");
-}
-
-// Writes the tenths of a nanosecond that a message of that many bits takes, and those of one bit.
-fn print_tenths_of(tenths: usize, bits: usize) {
-    print_tenths(tenths);
-    if 0 < bits {
-        print_tenths(tenths / bits);
-        text(b" a bit");
-    }
-}
-
 // The row of `encode`.
 fn encode_row(timed: bool, m: usize, t: usize, message: &[u8], codeword: &mut [u8]) {
-    print_code(t, message, codeword);
+    print::code(t, message, codeword);
     print_encode(m, t, message, codeword);
     if !timed {
         text(b"\n");
         return;
     }
-    print_tenths_of(clock::best(false, m, t, message, codeword), message.len());
+    print::time_of(
+        clock::best(Call::Encode, m, t, message, codeword),
+        message.len(),
+    );
     text(b"\n");
 }
 
@@ -90,7 +72,7 @@ fn hard_row(
 ) {
     encoder::encode(m, t, word.len(), message, word);
     words::flip(word, errors, step);
-    print_code(t, message, codeword);
+    print::code(t, message, codeword);
     text(b" hard with ");
     number(errors);
     text(b" errors: ");
@@ -99,7 +81,7 @@ fn hard_row(
         text(b"\n");
         return;
     }
-    print_tenths(clock::best(true, m, t, word, codeword));
+    print::time(clock::best(Call::Hard, m, t, word, codeword));
     text(b"\n");
 }
 
@@ -137,12 +119,14 @@ fn code_rows(
     rows(timed, m, t, step, message, word, codeword);
 }
 
-// The rows of the four codes. At each step the word with t + 1 errors is lost.
+// The rows of the four codes (at each step the word with t + 1 errors is lost), and those of
+// `decode_soft`.
 fn all_rows(timed: bool) {
     code_rows(timed, 5, 2, 9, &mut [0; 21], &mut [0; 31], &mut [0; 31]);
     code_rows(timed, 6, 2, 20, &mut [0; 51], &mut [0; 63], &mut [0; 63]);
     code_rows(timed, 8, 2, 80, &mut [0; 239], &mut [0; 255], &mut [0; 255]);
     code_rows(timed, 8, 3, 61, &mut [0; 231], &mut [0; 255], &mut [0; 255]);
+    soft::rows(timed);
 }
 
 // Whether the first argument is `time`.

@@ -32,23 +32,11 @@ fn counted(totals: Totals, answer: Soft) -> Totals {
             now.lost = sum(now.lost, 1);
             now.tries = sum(now.tries, tries);
         }
-        Soft::Fair {
-            distance: _,
-            margin: _,
-            flips: _,
-            place: _,
-            tries,
-        } => {
+        Soft::Fair { tries, .. } => {
             now.fair = sum(now.fair, 1);
             now.tries = sum(now.tries, tries);
         }
-        Soft::Sure {
-            distance: _,
-            margin: _,
-            flips: _,
-            place: _,
-            tries,
-        } => {
+        Soft::Sure { tries, .. } => {
             now.sure = sum(now.sure, 1);
             now.tries = sum(now.tries, tries);
         }

@@ -9,10 +9,10 @@ use Rattle.speed.proofs.clock.best.Statement.{statement}
 use Rattle.speed.proofs.clock.best.Tie as tie
 
 abbrev Inv-loop : tie.InvT-loop
-Inv-loop decodes m t input codeword₀ calls least₀ left₀ codeword least left = (least ≤ 1000000000) × (length codeword ≡ length codeword₀)
+Inv-loop call m t input codeword₀ calls least₀ left₀ codeword least left = (least ≤ 1000000000) × (length codeword ≡ length codeword₀)
 
 abbrev μ-loop : tie.MeasureT-loop
-μ-loop decodes m t input codeword₀ calls least₀ left₀ codeword least left = left
+μ-loop call m t input codeword₀ calls least₀ left₀ codeword least left = left
 
 enough-requires : tie.Need-enough-requires Inv-loop μ-loop
 enough-requires c κs = search needs

@@ -7,10 +7,10 @@ use Rattle.speed.proofs.clock.enough.Statement.{statement}
 use Rattle.speed.proofs.clock.enough.Tie as tie
 
 abbrev Inv-loop : tie.InvT-loop
-Inv-loop decodes m t input codeword₀ calls₀ codeword calls = (0 < calls) × (calls < 2000000000) × (length codeword ≡ length codeword₀)
+Inv-loop call m t input codeword₀ calls₀ codeword calls = (0 < calls) × (calls < 2000000000) × (length codeword ≡ length codeword₀)
 
 abbrev μ-loop : tie.MeasureT-loop
-μ-loop decodes m t input codeword₀ calls₀ codeword calls = 2000000000 - calls
+μ-loop call m t input codeword₀ calls₀ codeword calls = 2000000000 - calls
 
 loop-holds : tie.Need-loop-holds Inv-loop μ-loop
 loop-holds c = search needs
