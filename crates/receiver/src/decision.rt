@@ -210,6 +210,43 @@ pub fn decode_with(
     answer
 }
 
+// The soft stage with the field's tables filled: those of the solutions are its own.
+fn decode_in(
+    m: usize,
+    t: usize,
+    n: usize,
+    period: usize,
+    exps: &[u16],
+    logs: &[u16],
+    powers: &[u32],
+    p: usize,
+    s: &[u8],
+    codeword: &mut [u8],
+) -> Soft
+    requires { ⌜ FieldTables m (now exps) (now logs) (now powers) ⌝ }
+    requires { ⌜ (period ≡ 2 ^ m - 1) × SoftAccepted (code m t n) p (now s) (now codeword) ⌝ }
+    ensures { λ r. ⌜ softOf r (now (codeword .exit)) ≡ inr (softStage (code m t n) p (now (s .entry))) ⌝ }
+    ensures { λ _. ⌜ now (codeword .exit) ≡ softWritten (softStage (code m t n) p (now (s .entry))) (now (codeword .entry)) ⌝ }
+{
+    let mut first = [0u16; 1024];
+    let mut second = [0u16; 1024];
+    roots::fill(m, t, period, exps, logs, powers, &mut first, &mut second);
+    decode_with(
+        m,
+        t,
+        n,
+        period,
+        exps,
+        logs,
+        powers,
+        &first,
+        &second,
+        p,
+        s,
+        codeword,
+    )
+}
+
 // The soft stage with tables of its own, which have room for m = 10.
 pub fn decode(m: usize, t: usize, n: usize, p: usize, s: &[u8], codeword: &mut [u8]) -> Soft
     requires { ⌜ SoftAccepted (code m t n) p (now s) (now codeword) ⌝ }
@@ -219,23 +256,7 @@ pub fn decode(m: usize, t: usize, n: usize, p: usize, s: &[u8], codeword: &mut [
     let mut exps = [0u16; 2048];
     let mut logs = [0u16; 1024];
     let mut powers = [0u32; 1024];
-    let mut first = [0u16; 1024];
-    let mut second = [0u16; 1024];
     let period = field::size(m) - 1;
     field::fill(m, period, &mut exps, &mut logs, &mut powers);
-    roots::fill(m, t, period, &exps, &logs, &powers, &mut first, &mut second);
-    decode_with(
-        m,
-        t,
-        n,
-        period,
-        &exps,
-        &logs,
-        &powers,
-        &first,
-        &second,
-        p,
-        s,
-        codeword,
-    )
+    decode_in(m, t, n, period, &exps, &logs, &powers, p, s, codeword)
 }

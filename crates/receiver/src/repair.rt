@@ -78,6 +78,41 @@ fn decode_with(
     Hard::Found(f.count)
 }
 
+// The hard stage with the field's tables filled: those of the solutions are its own.
+fn decode_in(
+    m: usize,
+    t: usize,
+    n: usize,
+    period: usize,
+    exps: &[u16],
+    logs: &[u16],
+    powers: &[u32],
+    bits: &[u8],
+    codeword: &mut [u8],
+) -> Hard
+    requires { ⌜ FieldTables m (now exps) (now logs) (now powers) ⌝ }
+    requires { ⌜ (period ≡ 2 ^ m - 1) × BitsAccepted (code m t n) n (now bits) (now codeword) ⌝ }
+    ensures { λ r. ⌜ hardOf r ≡ inr (hardFlips (code m t n) (now (bits .entry))) ⌝ }
+    ensures { λ _. ⌜ now (codeword .exit) ≡ hardWritten (code m t n) (now (bits .entry)) (now (codeword .entry)) ⌝ }
+{
+    let mut first = [0u16; 1024];
+    let mut second = [0u16; 1024];
+    roots::fill(m, t, period, exps, logs, powers, &mut first, &mut second);
+    decode_with(
+        m,
+        t,
+        n,
+        period,
+        exps,
+        logs,
+        powers,
+        &first,
+        &second,
+        bits,
+        codeword,
+    )
+}
+
 // The hard stage with tables of its own, which have room for m = 10.
 pub fn decode(m: usize, t: usize, n: usize, bits: &[u8], codeword: &mut [u8]) -> Hard
     requires { ⌜ BitsAccepted (code m t n) n (now bits) (now codeword) ⌝ }
@@ -87,22 +122,7 @@ pub fn decode(m: usize, t: usize, n: usize, bits: &[u8], codeword: &mut [u8]) ->
     let mut exps = [0u16; 2048];
     let mut logs = [0u16; 1024];
     let mut powers = [0u32; 1024];
-    let mut first = [0u16; 1024];
-    let mut second = [0u16; 1024];
     let period = field::size(m) - 1;
     field::fill(m, period, &mut exps, &mut logs, &mut powers);
-    roots::fill(m, t, period, &exps, &logs, &powers, &mut first, &mut second);
-    decode_with(
-        m,
-        t,
-        n,
-        period,
-        &exps,
-        &logs,
-        &powers,
-        &first,
-        &second,
-        bits,
-        codeword,
-    )
+    decode_in(m, t, n, period, &exps, &logs, &powers, bits, codeword)
 }
