@@ -8,7 +8,7 @@ use mathlib.Core.List.{List, [], _∷_, _++_, append-nil, append-assoc}
 use borrow.Author.Tests.{eq-eqb, ne-eqb}
 use lib.Bits.{bitXor}
 use lib.Pow.{pow-pos}
-use lib.ListN.{length, set, take}
+use lib.ListN.{length, getD, set, take}
 use lib.Seq.{take-suc-set}
 use Rattle.galois.specs.Field.{alpha, log, mul, over}
 use Rattle.galois.proofs.FieldTables.{Entries}
@@ -28,6 +28,29 @@ three-entries m a b c ha hb hc zero = ha
 three-entries m a b c ha hb hc (suc zero) = hb
 three-entries m a b c ha hb hc (suc (suc zero)) = hc
 three-entries m a b c ha hb hc (suc (suc (suc i))) = pow-pos m
+
+-- ---- three entries, one of them replaced
+
+pub set-first : (xs : List ℕ) (i x : ℕ) → length xs ≡ 3 → i ≡ 0 → x ∷ getD xs 1 0 ∷ getD xs 2 0 ∷ [] ≡ set xs i x
+set-first (a ∷ b ∷ c ∷ []) i x l e = rw e refl
+set-first (a ∷ b ∷ c ∷ d ∷ xs) i x l e = absurd (omega arith)
+set-first (a ∷ b ∷ []) i x l e = absurd (omega arith)
+set-first (a ∷ []) i x l e = absurd (omega arith)
+set-first [] i x l e = absurd (omega arith)
+
+pub set-second : (xs : List ℕ) (i x : ℕ) → length xs ≡ 3 → i ≡ 1 → getD xs 0 0 ∷ x ∷ getD xs 2 0 ∷ [] ≡ set xs i x
+set-second (a ∷ b ∷ c ∷ []) i x l e = rw e refl
+set-second (a ∷ b ∷ c ∷ d ∷ xs) i x l e = absurd (omega arith)
+set-second (a ∷ b ∷ []) i x l e = absurd (omega arith)
+set-second (a ∷ []) i x l e = absurd (omega arith)
+set-second [] i x l e = absurd (omega arith)
+
+pub set-third : (xs : List ℕ) (i x : ℕ) → length xs ≡ 3 → i ≡ 2 → getD xs 0 0 ∷ getD xs 1 0 ∷ x ∷ [] ≡ set xs i x
+set-third (a ∷ b ∷ c ∷ []) i x l e = rw e refl
+set-third (a ∷ b ∷ c ∷ d ∷ xs) i x l e = absurd (omega arith)
+set-third (a ∷ b ∷ []) i x l e = absurd (omega arith)
+set-third (a ∷ []) i x l e = absurd (omega arith)
+set-third [] i x l e = absurd (omega arith)
 
 -- ---- an element more, unless it is 0
 

@@ -1,9 +1,9 @@
 -- The search as a loop: its start, one try without a candidate, with one that ends it and with one that does not, and its end.
 -- Assumes nothing.
-use Prim.Native.Nat.{ℕ, suc, _+_, _-_, _^_, _≤_, _<_}
+use Prim.Native.Nat.{ℕ, zero, suc, _+_, _-_, _^_, _≤_, _<_}
 use native.Mathlib.Omega.{arith}
 use native.Mathlib.Numerals.{add-one}
-use mathlib.Core.Path.{_≡_, refl, ap, sym, subst⁻¹}
+use mathlib.Core.Path.{_≡_, refl, ap, sym, subst⁻¹, _∙_}
 use mathlib.Core.List.{List}
 use mathlib.Core.Option.{Option, none, some, Option·map}
 use borrow.Author.Tests.{le-leb, lt-leb, lt-ltb, le-ltb}
@@ -78,6 +78,14 @@ module _ (code : Code) (p : ℕ) (ss : List ℕ) where
             let l′ : candidate code p ss j c .A < candidate code p ss j c .L = subst⁻¹ (λ (k : Candidate). k .A < k .L) s l in
             rw (add-one, left, searchFrom, e, lt-leb (candidate code p ss j c .L) (candidate code p ss j c .A) l′)
             (ap (λ (k : Candidate). searchFrom code p ss (n - suc j) (suc j) (better best k)) s)
+
+  -- several tries without a candidate
+  pub skip : (n f j k : ℕ) (best : Option Candidate) → k ≡ j + f → k ≤ n
+      → ((i : ℕ) → j ≤ i → i < k → Option·map (candidate code p ss i) (tried code p ss i) ≡ none)
+      → searchFrom code p ss (n - j) j best ≡ searchFrom code p ss (n - k) k best
+  skip n zero j k best e u h = let q : j ≡ k = omega arith in ap (λ (i : ℕ). searchFrom code p ss (n - i) i best) q
+  skip n (suc f) j k best e u h =
+      step-none n j best (omega arith) (h j (omega arith) (omega arith)) ∙ skip n f (j + 1) k best (omega arith) u (λ i a b. h i (omega arith) b)
 
   -- no try is left
   pub step-end : (n j : ℕ) (best : Option Candidate) → n ≡ j → searchFrom code p ss (n - j) j best ≡ settled n best

@@ -1,17 +1,17 @@
 -- One try, from what is located for the packed syndromes of its test word. Assumes nothing.
-use Prim.Native.Nat.{ℕ, _+_, _-_, _*_, _/_, _%_, _^_, _<_}
+use Prim.Native.Nat.{ℕ, _+_, _-_, _*_}
 use native.Mathlib.Omega.{arith}
-use mathlib.Core.Path.{_≡_, ap, sym, _∙_}
+use mathlib.Core.Path.{_≡_, refl, ap, sym, _∙_}
 use mathlib.Core.Bool.{Bool, true, false}
-use mathlib.Core.List.{List}
+use mathlib.Core.List.{List, []}
 use mathlib.Core.Option.{none, some, Option·map}
 use lib.ListN.{length, take}
 use Rattle.bch.specs.Words.{Distinct, flippedAt}
 use Rattle.bch.specs.Code.{code}
 use Rattle.bch.proofs.Settings.{Lawful}
-use Rattle.bch.proofs.RootTables.{RootTables, at}
-use Rattle.bch.proofs.ClosedForm.{located}
+use Rattle.bch.proofs.RootTables.{RootTables}
 use Rattle.bch.proofs.Placing.{positions}
+use Rattle.bch.proofs.Seeking.{Parts, locatedBy}
 use Rattle.bch.proofs.HardAnswers.{parts-lt, none-repaired, found-repaired, found-distinct}
 use Rattle.chase.specs.Soft.{Candidate, hardBits, reliabilities, candidate, tried}
 use Rattle.chase.specs.Word.{test}
@@ -34,19 +34,19 @@ module _ (m t n : ℕ) (lawful : Lawful (code m t n)) (first second : List ℕ) 
   long-T = length-tested ss ks p (deep .ready) j ∙ long
 
   -- the parts of the packed number are elements
-  pub try-parts : (s % 1024 < 2 ^ m) × (s / 1024 % 1024 < 2 ^ m) × (s / 1048576 < 2 ^ m)
+  pub try-parts : Parts m s
   unfolding T
   try-parts = parts-lt (code m t n) lawful first second tables T long-T (bits-tested ss ks p (deep .ready) j) s packs
 
-  module _ (found : Bool) (count : ℕ) (ps : List ℕ)
-      (e : positions found count ps ≡ located m t n (at first) (at first) (at second) (s % 1024) (s / 1024 % 1024) (s / 1048576)) where
-    -- nothing is located: no candidate
-    pub try-none : found ≡ false → Option·map (candidate (code m t n) p ss j) (tried (code m t n) p ss j) ≡ none
-    unfolding T tried
-    try-none z =
-        ap (Option·map (candidate (code m t n) p ss j))
-        (none-repaired (code m t n) lawful first second tables T long-T (bits-tested ss ks p (deep .ready) j) s packs found count ps e z)
+  -- nothing is located: no candidate
+  pub try-missed : locatedBy m t n first second s ≡ none → Option·map (candidate (code m t n) p ss j) (tried (code m t n) p ss j) ≡ none
+  unfolding T tried positions
+  try-missed h =
+      ap (Option·map (candidate (code m t n) p ss j))
+      (none-repaired (code m t n) lawful first second tables T long-T (bits-tested ss ks p (deep .ready) j) s packs false 0 [] (sym h) refl)
 
+  module _ (found : Bool) (count : ℕ) (ps : List ℕ)
+      (e : positions found count ps ≡ locatedBy m t n first second s) where
     module _ (z : found ≡ true) where
       -- what is located is distinct
       pub try-distinct : Distinct n (take count ps)

@@ -19,7 +19,7 @@ use Rattle.galois.specs.Packed.{packed}
 use Rattle.galois.proofs.Tests.{lt-or-le}
 use Rattle.galois.proofs.Packed.{element-lt, packed-second, packed-third}
 use Rattle.galois.proofs.Primitive.{Primitive, primitive-5-10}
-use Rattle.galois.proofs.FieldLaws.{alpha-lt, alpha-once, alpha-onto, alpha-log, log-lt, log-alpha, mul-alpha}
+use Rattle.galois.proofs.FieldLaws.{alpha-lt, alpha-nonzero, alpha-once, alpha-onto, alpha-log, log-lt, log-alpha, mul-alpha}
 use Rattle.galois.proofs.Logs.{alpha-period, alpha-periods, log-zero}
 
 -- ---- what the tables hold
@@ -204,6 +204,21 @@ over-log : (m a b : ℕ) → a ≢ 0 → alpha m (log m a + (2 ^ m - 1 - log m b
 unfolding over
 over-log m zero b n = absurd (n refl)
 over-log m (suc a) b n = refl
+
+-- a quotient of powers is the power at the difference of the exponents, in whatever period
+pub over-alpha : (m : ℕ) → Primitive m → (i j x q : ℕ) → x + j ≡ q * (2 ^ m - 1) + i → over m (alpha m i) (alpha m j) ≡ alpha m x
+over-alpha m g i j x q e =
+    let la = log m (alpha m i) in
+    let lb = log m (alpha m j) in
+    let pa : 0 < alpha m i = omega (arith, alpha-nonzero m g i) in
+    let pb : 0 < alpha m j = omega (arith, alpha-nonzero m g j) in
+    let hb = log-lt m g (alpha m j) pb (alpha-lt m g j) in
+    let k : la + (2 ^ m - 1 - lb) + lb ≡ la + (2 ^ m - 1) = omega (arith, hb) in
+    let old : alpha m (la + (2 ^ m - 1 - lb) + lb) ≡ alpha m i = ap (alpha m) k ∙ alpha-period m g la ∙ alpha-log m g (alpha m i) pa (alpha-lt m g i) in
+    let new : alpha m (x + lb) ≡ alpha m i =
+    sym (mul-alpha m g x lb) ∙ ap (mul m (alpha m x)) (alpha-log m g (alpha m j) pb (alpha-lt m g j)) ∙ mul-alpha m g x j ∙ ap (alpha m) e
+    ∙ alpha-periods m g q i in
+    sym (over-log m (alpha m i) (alpha m j) (alpha-nonzero m g i)) ∙ cancel m g (la + (2 ^ m - 1 - lb)) x lb (omega (arith, hb)) (old ∙ sym new)
 
 -- what is looked up is an element
 pub exponential-lt : (m : ℕ) (es : List ℕ) → 5 ≤ m → m ≤ 10 → Exponentials m es → (i : ℕ) → i < 2 * (2 ^ m - 1) → getD es i 0 < 1024

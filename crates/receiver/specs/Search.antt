@@ -1,7 +1,8 @@
 -- What the numbers of the search stand for, and when they are sound. Cited by the contracts of private functions alone.
 -- Assumes nothing.
-use Prim.Native.Nat.{ℕ, _<_}
-use mathlib.Core.Bool.{cond}
+use Prim.Native.Nat.{ℕ, _-_, _<_}
+use mathlib.Core.Path.{_≡_}
+use mathlib.Core.Bool.{Bool, true, cond}
 use mathlib.Core.List.{List}
 use mathlib.Core.Option.{Option, none, some}
 use lib.Dec.{ltb}
@@ -9,8 +10,10 @@ use lib.IntN.{subℕ}
 use lib.ListN.{take}
 use Rattle.bch.specs.Words.{flippedAt}
 use Rattle.bch.proofs.Placing.{Placed}
-use Rattle.chase.specs.Soft.{Answer, Candidate, answer, lostAnswer, sure, fair}
+use Rattle.chase.specs.Soft.{Answer, Candidate, answer, lostAnswer, sure, fair, hardBits, reliabilities}
 use Rattle.chase.specs.Word.{test}
+use Rattle.chase.proofs.Weights.{Weighs}
+use Rattle.chase.proofs.Allowances.{weighed}
 use Rattle.receiver.specs.declared.locate.Flips.{Flips}
 use Rattle.receiver.specs.declared.search.Pick.{Pick}
 use Rattle.receiver.specs.declared.search.Outcome.{Outcome}
@@ -38,9 +41,16 @@ module _ (p : ℕ) (ss : List ℕ) where
       (cond (o .sure) (answer sure (o .tries) (candidateOf (o .pick))) (answer fair (o .tries) (candidateOf (o .pick))))
       (lostAnswer (o .tries))
 
--- the better of two picks, the second of which stands for a candidate: the second only where it is nearer
-unfoldable pub betterPick : Pick → Pick → Pick
-betterPick b k = cond (b .flips .found) (cond (ltb (k .sum) (b .sum)) k b) k
+-- test word j flipped at f, with its numbers
+pub record Weighed (d p : ℕ) (ss ks : List ℕ) (j : ℕ) (f : Flips) (k : Pick) : Type 0 where
+  pub flips : k .flips ≡ f
+  pub place : k .place ≡ j
+  pub weighs : Weighs (reliabilities ss) (flippedAt (flipsOf f) (test p ss j)) (hardBits ss) (k .q) (k .sum)
+  pub allows : k .allowed ≡ weighed (take (d - k .q) ks)
+
+-- a candidate of distance L is nearer than a pick, where that stands for one
+unfoldable pub nearerPick : Pick → ℕ → Bool
+nearerPick b L = cond (b .flips .found) (ltb L (b .sum)) true
 
 -- a pick's numbers are small, and its positions those of a word of n bits
 pub record Sound (n : ℕ) (k : Pick) : Type 0 where

@@ -5,19 +5,45 @@
 // is 0 the Y are the cube roots of D2; elsewhere Y = W D2^2 / E, where W^3 = k (W + 1) and k = E^3 / D2^5. Two of the three W stand in
 // tables, and the third Y is the sum of the other two. Two errors are no case of their own: D3 is then 0, and one X with it.
 ghost use mathlib.Core.Path.{_≡_};
+ghost use mathlib.Core.Logic.{_≢_};
 ghost use mathlib.Core.Bool.{false};
 ghost use mathlib.Core.List.{[], _∷_, _++_};
-ghost use Prim.Native.Nat.{_+_, _-_, _/_, _%_, _<_, _≤_, _^_};
-ghost use lib.ListN.{length, take};
+ghost use Prim.Native.Nat.{ℕ, _+_, _-_, _/_, _%_, _<_, _≤_, _^_};
+ghost use lib.ListN.{length, getD, take, set};
 ghost use Rattle.galois.proofs.FieldTables.{FieldTables, Entries};
 ghost use Rattle.bch.proofs.Decoder.{attempted};
 ghost use Rattle.bch.proofs.Elements.{single as Elements·single, elements as Elements·elements};
-ghost use Rattle.bch.proofs.KappaDecoder.{nonzero, byCubes, byKappa, kappas, trio as Elements·trio};
+ghost use Rattle.bch.proofs.KappaDecoder.{kappa as KappaDecoder·kappa, nonzero, byCubes, byKappa, kappas, trio as Elements·trio};
 ghost use Rattle.bch.proofs.RootTables.{RootTables, at};
 ghost use Rattle.bch.proofs.ElementLists.{Listed, pairBy};
-ghost use Rattle.bch.proofs.ClosedForm.{located};
 ghost use Rattle.bch.proofs.Placing.{lowerPart, positions, Placed};
+ghost use Rattle.bch.proofs.Seeking.{Parts, locatedBy, Next as Seeking·Next};
 use crate::field;
+
+// The entry at i. (Three entries by their names, here and in `with`, stay in registers; an index that varies would put them into
+// memory, and a copy of them waits for it.)
+pub fn entry_of(xs: [usize; 3], i: usize) -> usize
+    requires { ⌜ (i < 3) × (length xs ≡ 3) ⌝ }
+    ensures { λ r. ⌜ r ≡ getD xs i 0 ⌝ }
+{
+    match i {
+        0 => xs[0],
+        1 => xs[1],
+        _ => xs[2],
+    }
+}
+
+// The entries with x at i.
+fn with(xs: [usize; 3], i: usize, x: usize) -> [usize; 3]
+    requires { ⌜ (i < 3) × (length xs ≡ 3) ⌝ }
+    ensures { λ r. ⌜ r ≡ set xs i x ⌝ }
+{
+    match i {
+        0 => [x, xs[1], xs[2]],
+        1 => [xs[0], x, xs[2]],
+        _ => [xs[0], xs[1], x],
+    }
+}
 
 // Up to three elements.
 pub struct Elements {
@@ -44,11 +70,10 @@ fn put(m: usize, e: Elements, x: usize) -> Elements
     if x == 0 {
         return e;
     }
-    let k = e.count;
-    let mut at = e.at;
-    at[k] = x;
+    let old = e.at;
+    let at = with(old, e.count, x);
     Elements {
-        count: k + 1,
+        count: e.count + 1,
         at: at,
     }
 }
@@ -125,7 +150,27 @@ fn by_cubes(
     trio(m, s1, x, y)
 }
 
-// Two or three elements where E is not 0, by k = E^3 / D2^5.
+// k = E^3 / D2^5 by logarithms: 3 log E - 5 log D2, in five periods. As exponents, 2^m and 1 are the same.
+fn kappa(
+    m: usize,
+    period: usize,
+    exps: &[u16],
+    logs: &[u16],
+    powers: &[u32],
+    d2: usize,
+    e: usize,
+) -> usize
+    requires { ⌜ FieldTables m (now exps) (now logs) (now powers) ⌝ }
+    requires { ⌜ (period ≡ 2 ^ m - 1) × (d2 < 2 ^ m) × (d2 ≢ 0) × (e < 2 ^ m) × (e ≢ 0) ⌝ }
+    ensures { λ r. ⌜ (r ≡ KappaDecoder·kappa m d2 e) × (r < 2 ^ m) ⌝ }
+{
+    let down = field::log_of(m, exps, logs, powers, d2);
+    let up = field::log_of(m, exps, logs, powers, e);
+    let x = 3 * up + 5 * (period - down);
+    field::power_of(m, exps, logs, powers, (x & period) + (x >> m))
+}
+
+// Two or three elements where D2 and E are not 0, by k = E^3 / D2^5.
 fn by_kappa(
     m: usize,
     period: usize,
@@ -139,13 +184,11 @@ fn by_kappa(
     e: usize,
 ) -> Elements
     requires { ⌜ FieldTables m (now exps) (now logs) (now powers) ⌝ }
-    requires { ⌜ (period ≡ 2 ^ m - 1) × (s1 < 2 ^ m) × (d2 < 2 ^ m) × (e < 2 ^ m) ⌝ }
+    requires { ⌜ (period ≡ 2 ^ m - 1) × (s1 < 2 ^ m) × (d2 < 2 ^ m) × (d2 ≢ 0) × (e < 2 ^ m) × (e ≢ 0) ⌝ }
     requires { ⌜ (2 ^ m ≤ length (now first)) × (2 ^ m ≤ length (now second)) × Entries m (now first) × Entries m (now second) ⌝ }
     ensures { λ r. ⌜ Listed m (r .count) (r .at) (byKappa m (at (now (first .entry))) (at (now (second .entry))) s1 d2 e) ⌝ }
 {
-    let e_cubed = field::cube(m, exps, logs, powers, e);
-    let d2_fifth = field::fifth(m, exps, logs, powers, d2);
-    let k = field::quotient(m, period, exps, logs, powers, e_cubed, d2_fifth);
+    let k = kappa(m, period, exps, logs, powers, d2, e);
     let v = field::entry(second, k);
     if v == 0 {
         return none(m);
@@ -246,11 +289,12 @@ fn place(
     let mut acc: u32 = 0;
     let mut i = 0;
     while i < count {
-        let p = field::log_of(m, exps, logs, powers, xs[i]);
+        let p = field::log_of(m, exps, logs, powers, entry_of(xs, i));
         if n <= p {
             return lost();
         }
-        at[i] = p;
+        let more = with(at, i, p);
+        at = more;
         acc = acc ^ powers[p];
         i += 1;
     }
@@ -265,7 +309,7 @@ fn place(
 }
 
 // The positions to flip, from the syndromes in one number.
-pub fn locate(
+fn locate(
     m: usize,
     t: usize,
     n: usize,
@@ -279,8 +323,8 @@ pub fn locate(
 ) -> Flips
     requires { ⌜ FieldTables m (now exps) (now logs) (now powers) ⌝ }
     requires { ⌜ RootTables m t (now first) (now second) ⌝ }
-    requires { ⌜ (period ≡ 2 ^ m - 1) × (1 ≤ t) × (t ≤ 3) × (n ≤ 2 ^ m - 1) × (s % 1024 < 2 ^ m) × (s / 1024 % 1024 < 2 ^ m) × (s / 1048576 < 2 ^ m) ⌝ }
-    ensures { λ r. ⌜ positions (r .found) (r .count) (r .at) ≡ located m t n (at (now (first .entry))) (at (now (first .entry))) (at (now (second .entry))) (s % 1024) (s / 1024 % 1024) (s / 1048576) ⌝ }
+    requires { ⌜ (period ≡ 2 ^ m - 1) × (1 ≤ t) × (t ≤ 3) × (n ≤ 2 ^ m - 1) × Parts m s ⌝ }
+    ensures { λ r. ⌜ positions (r .found) (r .count) (r .at) ≡ locatedBy m t n (now (first .entry)) (now (second .entry)) s ⌝ }
     ensures { λ r. ⌜ Placed n (r .count) (r .at) ⌝ }
 {
     let s1 = field::index(s % 1024);
@@ -288,4 +332,48 @@ pub fn locate(
     let s5 = field::index(s / 1048576);
     let e = elements_of(m, t, period, exps, logs, powers, first, second, s1, s3, s5);
     place(m, t, n, exps, logs, powers, s, e)
+}
+
+// A place among several syndromes, and the positions to flip that are located there.
+pub struct Spot {
+    pub at: usize,
+    pub flips: Flips,
+}
+
+// The first of the syndromes, from one on, for which positions are located. (Both stages go through here: a function that is called
+// from one place alone is compiled into it, and a test word then costs no call of `locate`.)
+pub fn next(
+    m: usize,
+    t: usize,
+    n: usize,
+    period: usize,
+    exps: &[u16],
+    logs: &[u16],
+    powers: &[u32],
+    first: &[u16],
+    second: &[u16],
+    sums: &[u32],
+    from: usize,
+    all: usize,
+) -> Spot
+    requires { ⌜ FieldTables m (now exps) (now logs) (now powers) ⌝ }
+    requires { ⌜ RootTables m t (now first) (now second) ⌝ }
+    requires { ⌜ (period ≡ 2 ^ m - 1) × (1 ≤ t) × (t ≤ 3) × (n ≤ 2 ^ m - 1) ⌝ }
+    requires { ⌜ (from ≤ all) × (all ≤ 64) × (all ≤ length (now sums)) × ((j : ℕ) → j < all → Parts m (getD (now sums) j 0)) ⌝ }
+    ensures { λ r. ⌜ Seeking·Next (λ (j : ℕ). locatedBy m t n (now (first .entry)) (now (second .entry)) (getD (now (sums .entry)) j 0)) from all (r .at) (r .flips .found) (r .flips .count) (r .flips .at) ⌝ }
+    ensures { λ r. ⌜ Placed n (r .flips .count) (r .flips .at) ⌝ }
+{
+    let mut j = from;
+    while j < all {
+        let f = locate(m, t, n, period, exps, logs, powers, first, second, sums[j]);
+        let found = f.found;
+        if found {
+            return Spot { at: j, flips: f };
+        }
+        j += 1;
+    }
+    Spot {
+        at: all,
+        flips: lost(),
+    }
 }

@@ -40,7 +40,7 @@ pub fn flip_at(out: &mut [u8], f: Flips)
     let places = f.at;
     let mut i = 0;
     while i < count {
-        let p = places[i];
+        let p = locate::entry_of(places, i);
         out[p] = 1 - out[p];
         i += 1;
     }
@@ -68,7 +68,22 @@ fn decode_with(
     ensures { λ _. ⌜ now (codeword .exit) ≡ hardWritten (code m t n) (now (bits .entry)) (now (codeword .entry)) ⌝ }
 {
     let s = syndrome::syndromes(m, powers, bits);
-    let f = locate::locate(m, t, n, period, exps, logs, powers, first, second, s);
+    let sums = [s];
+    let e = locate::next(
+        m,
+        t,
+        n,
+        period,
+        exps,
+        logs,
+        powers,
+        first,
+        second,
+        &sums,
+        0,
+        1,
+    );
+    let f = e.flips;
     let found = f.found;
     if !found {
         return Hard::Lost;

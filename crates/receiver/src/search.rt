@@ -1,20 +1,21 @@
 // The Chase search: the hard stage of one test word after the other, each candidate weighed, until one is sure.
 ghost use mathlib.Core.Path.{_≡_};
-ghost use mathlib.Core.Option.{Option·map};
-ghost use Prim.Native.Nat.{ℕ, _+_, _-_, _*_, _^_, _<_, _≤_};
+ghost use Prim.Native.Nat.{ℕ, _+_, _-_, _*_, _^_, _≤_};
 ghost use lib.ListN.{length, take};
 ghost use Rattle.galois.proofs.FieldTables.{FieldTables};
+ghost use Rattle.bch.specs.Words.{Distinct};
 ghost use Rattle.bch.specs.Code.{code};
 ghost use Rattle.bch.proofs.Settings.{Lawful};
 ghost use Rattle.bch.proofs.RootTables.{RootTables};
-ghost use Rattle.chase.specs.Soft.{candidate, tried, hardBits, reliabilities, softStage};
+ghost use Rattle.bch.proofs.Placing.{Placed};
+ghost use Rattle.chase.specs.Soft.{hardBits, reliabilities, softStage};
 ghost use Rattle.chase.specs.Word.{test};
 ghost use Rattle.chase.proofs.Doublings.{Holds};
 ghost use Rattle.chase.proofs.TestSums.{packedSums};
 ghost use Rattle.chase.proofs.Weights.{packedWeight};
-ghost use Rattle.chase.proofs.Allowances.{weighed};
+ghost use Rattle.chase.proofs.Allowances.{weighed as Allowances·weighed};
 ghost use Rattle.chase.proofs.Ready.{Deep};
-ghost use Rattle.receiver.specs.Search.{pickOf, outcomeOf, betterPick, Sound};
+ghost use Rattle.receiver.specs.Search.{flipsOf, outcomeOf, nearerPick, Weighed, Sound};
 use crate::locate;
 use crate::locate::Flips;
 use crate::ranking::Keys;
@@ -49,39 +50,23 @@ fn nothing(place: usize, f: Flips) -> Pick
     }
 }
 
-// The try of test word j, whose syndromes are `sums` and whose weight is `weight`.
-fn attempt(
-    m: usize,
-    t: usize,
-    n: usize,
-    period: usize,
-    exps: &[u16],
-    logs: &[u16],
-    powers: &[u32],
-    first: &[u16],
-    second: &[u16],
+// The candidate of test word j, of the weight given, flipped at f.
+fn weighed(
+    d: usize,
     s: &[u8],
     keys: Keys,
     p: usize,
     allowed: &[u32],
     j: usize,
-    sums: u32,
     weight: u32,
+    f: Flips,
 ) -> Pick
-    requires { ⌜ FieldTables m (now exps) (now logs) (now powers) ⌝ }
-    requires { ⌜ RootTables m t (now first) (now second) ⌝ }
-    requires { ⌜ Lawful (code m t n) × (period ≡ 2 ^ m - 1) × (length (now s) ≡ n) × Deep (2 * t + 1) (now s) (keys .at) p ⌝ }
-    requires { ⌜ (9 ≤ length (now allowed)) × Holds (λ (k : ℕ). weighed (take k (keys .at))) 9 (now allowed) ⌝ }
-    requires { ⌜ (sums ≡ packedSums m (test p (now s) j)) × (weight ≡ packedWeight (reliabilities (now s)) (test p (now s) j) (hardBits (now s))) ⌝ }
-    ensures { λ r. ⌜ pickOf p (now (s .entry)) r ≡ Option·map (candidate (code m t n) p (now (s .entry)) j) (tried (code m t n) p (now (s .entry)) j) ⌝ }
-    ensures { λ r. ⌜ Sound n r ⌝ }
+    requires { ⌜ Deep d (now s) (keys .at) p × (d ≤ 8) ⌝ }
+    requires { ⌜ (9 ≤ length (now allowed)) × Holds (λ (k : ℕ). Allowances·weighed (take k (keys .at))) 9 (now allowed) ⌝ }
+    requires { ⌜ weight ≡ packedWeight (reliabilities (now s)) (test p (now s) j) (hardBits (now s)) ⌝ }
+    requires { ⌜ Placed (length (now s)) (f .count) (f .at) × Distinct (length (now s)) (flipsOf f) ⌝ }
+    ensures { λ r. ⌜ Weighed d p (now (s .entry)) (keys .at) j f r ⌝ }
 {
-    let f = locate::locate(m, t, n, period, exps, logs, powers, first, second, sums);
-    let found = f.found;
-    if !found {
-        return nothing(j, f);
-    }
-    let d = 2 * t + 1;
     let w = weighing::weigh(s, keys, p, j, weight, f);
     let a = weighing::allowed_at(keys, allowed, d, w.q);
     Pick {
@@ -93,18 +78,15 @@ fn attempt(
     }
 }
 
-// The better of the best so far and a candidate: the new one only where it is nearer.
-fn better(b: Pick, k: Pick) -> Pick
-    ensures { λ r. ⌜ r ≡ betterPick b k ⌝ }
+// Whether a candidate of distance `sum` is better than the best so far: there is none, or it is farther.
+fn nearer(best: Pick, sum: u32) -> bool
+    ensures { λ r. ⌜ r ≡ nearerPick best sum ⌝ }
 {
-    let found = b.flips.found;
+    let found = best.flips.found;
     if !found {
-        return k;
+        return true;
     }
-    if k.sum < b.sum {
-        return k;
-    }
-    b
+    sum < best.sum
 }
 
 // All tries, unless one of them ends the search.
@@ -129,16 +111,17 @@ pub fn search(
     requires { ⌜ FieldTables m (now exps) (now logs) (now powers) ⌝ }
     requires { ⌜ RootTables m t (now first) (now second) ⌝ }
     requires { ⌜ Lawful (code m t n) × (period ≡ 2 ^ m - 1) × (length (now s) ≡ n) × Deep (2 * t + 1) (now s) (keys .at) p ⌝ }
-    requires { ⌜ (9 ≤ length (now allowed)) × Holds (λ (k : ℕ). weighed (take k (keys .at))) 9 (now allowed) ⌝ }
+    requires { ⌜ (9 ≤ length (now allowed)) × Holds (λ (k : ℕ). Allowances·weighed (take k (keys .at))) 9 (now allowed) ⌝ }
     requires { ⌜ (all ≡ 2 ^ p) × (all ≤ 64) × (64 ≤ length (now sums)) × (64 ≤ length (now weights)) ⌝ }
     requires { ⌜ Holds (λ (j : ℕ). packedSums m (test p (now s) j)) (2 ^ p) (now sums) ⌝ }
     requires { ⌜ Holds (λ (j : ℕ). packedWeight (reliabilities (now s)) (test p (now s) j) (hardBits (now s))) (2 ^ p) (now weights) ⌝ }
     ensures { λ r. ⌜ (outcomeOf p (now (s .entry)) r ≡ softStage (code m t n) p (now (s .entry))) × Sound n (r .pick) ⌝ }
 {
+    let d = 2 * t + 1;
     let mut best = nothing(0, locate::lost());
     let mut tries = 0;
     while tries < all {
-        let k = attempt(
+        let e = locate::next(
             m,
             t,
             n,
@@ -148,25 +131,30 @@ pub fn search(
             powers,
             first,
             second,
-            s,
-            keys,
-            p,
-            allowed,
+            sums,
             tries,
-            sums[tries],
-            weights[tries],
+            all,
         );
-        tries += 1;
-        let found = k.flips.found;
-        if found {
-            if k.sum <= k.allowed {
-                return Outcome {
-                    sure: true,
-                    tries: tries,
-                    pick: k,
-                };
-            }
-            best = better(best, k);
+        let j = e.at;
+        let found = e.flips.found;
+        if !found {
+            return Outcome {
+                sure: false,
+                tries: j,
+                pick: best,
+            };
+        }
+        let k = weighed(d, s, keys, p, allowed, j, weights[j], e.flips);
+        tries = j + 1;
+        if k.sum <= k.allowed {
+            return Outcome {
+                sure: true,
+                tries: tries,
+                pick: k,
+            };
+        }
+        if nearer(best, k.sum) {
+            best = k;
         }
     }
     Outcome {

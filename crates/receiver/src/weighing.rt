@@ -10,6 +10,7 @@ ghost use Rattle.chase.proofs.TestWords.{chosen};
 ghost use Rattle.chase.proofs.Weights.{Weighs, packedWeight};
 ghost use Rattle.chase.proofs.Allowances.{weighed};
 ghost use Rattle.chase.proofs.Ready.{Ready, placesOf};
+use crate::locate;
 use crate::locate::Flips;
 use crate::ranking;
 use crate::ranking::Keys;
@@ -105,7 +106,7 @@ pub fn weigh(s: &[u8], keys: Keys, p: usize, j: usize, start: u32, f: Flips) -> 
     let mut sum = start % 65536;
     let mut a = 0;
     while a < count {
-        let x = places[a];
+        let x = locate::entry_of(places, a);
         let z = z_at(s, x);
         if flipped(s, keys, p, j, x, z) {
             q -= 1;

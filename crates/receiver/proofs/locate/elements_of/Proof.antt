@@ -75,7 +75,7 @@ by-kappa-requires c κs =
     let r = s .pre .1 .0 in (
       s .pre .0,
       (
-        (p .0, p .3, xor-lt (s .args .m) _ _ (c .before .before .before .before .cube .ensures .1) (p .4), xor-lt (s .args .m) _ _ (c .before .fifth .ensures .1) (p .5)),
+        (p .0, p .3, xor-lt (s .args .m) _ _ (c .before .before .before .before .cube .ensures .1) (p .4), c .before .before .before .if2 .left, xor-lt (s .args .m) _ _ (c .before .fifth .ensures .1) (p .5), c .if4 .left),
         (r .first-long, r .second-long, r .first-entries, r .second-entries),
       ),
     )

@@ -18,7 +18,7 @@ elements-of-requires : tie.Need-elements-of-requires
 elements-of-requires c κs =
     let s = c .before .before .before .before .before .before .before .before in
     let p = s .pre .1 .1 in
-    (s .pre .0, (s .pre .1 .0, (p .0, p .1, p .2, rw (c .before .before .index .ensures) (p .4), rw (c .before .index2 .ensures) (p .5), rw (c .index3 .ensures) (p .6))))
+    (s .pre .0, (s .pre .1 .0, (p .0, p .1, p .2, rw (c .before .before .index .ensures) (p .4 .0), rw (c .before .index2 .ensures) (p .4 .1), rw (c .index3 .ensures) (p .4 .2))))
 
 place-requires : tie.Need-place-requires
 place-requires c κs =

@@ -23,37 +23,35 @@ abbrev μ-loop : tie.MeasureT-loop
 loop-holds : tie.Need-loop-holds Inv-loop μ-loop
 loop-holds c = (omega arith, refl, refl, λ k h. absurd (omega arith))
 
-mul-log-of : tie.Need-mul-log-of Inv-loop μ-loop
-mul-log-of c = omega arith
-
-array-read-log-of : tie.Need-array-read-log-of Inv-loop μ-loop
-array-read-log-of c = omega arith
+entry-of-requires : tie.Need-entry-of-requires Inv-loop μ-loop
+entry-of-requires c κs =
+    let s = c .before .before .before .before .before .before in
+    (omega arith, s .pre .1 .4)
 
 log-of-requires : tie.Need-log-of-requires Inv-loop μ-loop
 log-of-requires c κs =
-    let s = c .before .before .before .before .before .before in
-    (s .pre .0, s .pre .1 .5 _)
+    let s = c .before .before .before .before .before .before .before in
+    (s .pre .0, rw (c .entry-of .ensures) (s .pre .1 .5 _))
 
 lost-requires : tie.Need-lost-requires Inv-loop μ-loop
 lost-requires c κs = search needs
 
 returns : tie.Need-returns Inv-loop μ-loop
 returns c =
-    let s = c .before .before .before .before .before .before .before .before .before in
+    let s = c .before .before .before .before .before .before .before .before .before .before in
     let a = s .args in
     let f = s .pre .0 in
-    let l = c .before .before .before .before .loop in
+    let l = c .before .before .before .before .before .loop in
     let g = primitive-tables _ _ _ _ f in
     let r = c .lost .result in (
-      stopped (a .m) g (f .most) (a .t) (a .n) (a .s) (a .e .count) (a .e .at) (omega arith) (s .pre .1 .0) (s .pre .1 .1) (l .acc) (l .i) (l .at) (l .inv .2) (r .found) (r .count) (r .at) (c .lost .ensures .0) _ (omega arith) (c .before .before .log-of .ensures .0) (c .before .if1 .taken),
+      stopped (a .m) g (f .most) (a .t) (a .n) (a .s) (a .e .count) (a .e .at) (omega arith) (s .pre .1 .0) (s .pre .1 .1) (l .acc) (l .i) (l .at) (l .inv .2) (r .found) (r .count) (r .at) (c .lost .ensures .0) _ (omega arith) (rw (c .before .before .before .entry-of .ensures) at (c .before .before .log-of .ensures .0)) (c .before .if1 .taken),
       record { few = omega arith; long = c .lost .ensures .2; inside = λ k h. absurd (omega (arith, c .lost .ensures .1)) },
     )
 
-mul-at : tie.Need-mul-at Inv-loop μ-loop
-mul-at c = omega arith
-
-array-write-at : tie.Need-array-write-at Inv-loop μ-loop
-array-write-at c = omega arith
+with-requires : tie.Need-with-requires Inv-loop μ-loop
+with-requires c κs =
+    let l = c .before .before .before .before .loop in
+    (omega arith, l .inv .1)
 
 mul-acc : tie.Need-mul-acc Inv-loop μ-loop
 mul-acc c = omega arith
@@ -69,16 +67,19 @@ loop-less c = omega arith
 
 loop-again : tie.Need-loop-again Inv-loop μ-loop
 loop-again c =
-    let s = c .before .before .before .before .before .before .before .before .before in
+    let s = c .before .before .before .before .before .before .before .before .before .before .before in
     let a = s .args in
     let f = s .pre .0 in
-    let l = c .before .before .before .before .loop in
+    let l = c .before .before .before .before .before .before .loop in
     let g = primitive-tables _ _ _ _ f in
-    let p = c .before .before .log-of .result in (
+    let p = c .before .before .before .log-of .result in
+    let left = c .before .before .if1 .left in
+    let is = rw (c .before .before .before .before .entry-of .ensures) at (c .before .before .before .log-of .ensures .0) in
+    rw (c .before .with .ensures) (
       omega arith,
       simp length-set (l .inv .1),
-      placed-more (a .m) g (f .most) (a .t) (a .n) (a .s) (l .acc) (a .e .count) (l .i) (a .e .at) (l .at) (omega arith) p _ (omega arith) (omega arith) (c .before .before .log-of .ensures .0) (c .before .if1 .left) (f .powers p (omega arith)) (l .inv .2),
-      places-more (a .n) (l .i) p (l .at) (omega arith) (c .before .if1 .left) (l .inv .3),
+      placed-more (a .m) g (f .most) (a .t) (a .n) (a .s) (l .acc) (a .e .count) (l .i) (a .e .at) (l .at) (omega arith) p _ (omega arith) (omega arith) is left (f .powers p (omega arith)) (l .inv .2),
+      places-more (a .n) (l .i) p (l .at) (omega arith) left (l .inv .3),
     )
 
 part-requires : tie.Need-part-requires Inv-loop μ-loop
@@ -126,13 +127,11 @@ place-spec =
     Inv-loop
     μ-loop
     loop-holds
-    mul-log-of
-    array-read-log-of
+    entry-of-requires
     log-of-requires
     lost-requires
     returns
-    mul-at
-    array-write-at
+    with-requires
     mul-acc
     shared-slice-read-acc
     add-i

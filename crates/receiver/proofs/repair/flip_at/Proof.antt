@@ -1,7 +1,7 @@
 -- What is left to flip makes of the word what all flips make of it. Assumes nothing.
-use Prim.Native.Nat.{_-_, _≤_}
+use Prim.Native.Nat.{_-_, _≤_, _<_}
 use native.Mathlib.Omega.{arith}
-use mathlib.Core.Path.{_≡_, refl}
+use mathlib.Core.Path.{_≡_}
 use borrow.Author.Needs.{needs}
 use lib.ListN.{length, getD, take, drop, length-set}
 use Rattle.bch.specs.Words.{Bits, flippedAt}
@@ -17,30 +17,34 @@ Inv-loop out₀ count places i₀ out i =
 abbrev μ-loop : tie.MeasureT-loop
 μ-loop out₀ count places i₀ out i = count - i
 
+-- the position is one of the word's, and its bit a bit
+inside : (c : tie.After-entry-of Inv-loop μ-loop) → c .entry-of .result < length (c .before .before .loop .out)
+inside c =
+    let s = c .before .before .before .before .before in
+    let l = c .before .before .loop in
+    rw (c .entry-of .ensures) (omega (arith, s .pre .1 .inside (l .i) (omega arith), l .inv .1))
+
+bit : (c : tie.After-entry-of Inv-loop μ-loop) → getD (c .before .before .loop .out) (c .entry-of .result) 0 ≤ 1
+bit c =
+    let l = c .before .before .loop in
+    omega (arith, below-at 1 (l .out) (c .entry-of .result) (l .inv .2))
+
 loop-holds : tie.Need-loop-holds Inv-loop μ-loop
 loop-holds c = search needs
 
-mul-p : tie.Need-mul-p Inv-loop μ-loop
-mul-p c = search needs
-
-array-read-p : tie.Need-array-read-p Inv-loop μ-loop
-array-read-p c = search needs
+entry-of-requires : tie.Need-entry-of-requires Inv-loop μ-loop
+entry-of-requires c κs =
+    let s = c .before .before .before .before in
+    (omega (arith, s .pre .1 .few), s .pre .1 .long)
 
 slice-read-out : tie.Need-slice-read-out Inv-loop μ-loop
-slice-read-out c =
-    let s = c .before .before .before .before in
-    omega (arith, s .pre .1 .inside (c .before .before .loop .i) (omega arith))
+slice-read-out c = inside (c .before)
 
 sub-out : tie.Need-sub-out Inv-loop μ-loop
-sub-out c =
-    let s = c .before .before .before .before in
-    let l = c .before .before .loop in
-    omega (arith, below-at 1 (l .out) (getD (s .args .f .at) (l .i) 0) (l .inv .2))
+sub-out c = bit (c .before)
 
 slice-write-out : tie.Need-slice-write-out Inv-loop μ-loop
-slice-write-out c =
-    let s = c .before .before .before .before in
-    omega (arith, s .pre .1 .inside (c .before .before .loop .i) (omega arith))
+slice-write-out c = inside (c .before)
 
 add-i : tie.Need-add-i Inv-loop μ-loop
 add-i c = search needs
@@ -50,13 +54,13 @@ loop-less c = search needs
 
 loop-again : tie.Need-loop-again Inv-loop μ-loop
 loop-again c =
-    let s = c .before .before .before .before in
-    let l = c .before .before .loop in
-    let a = s .args .f .at in (
+    let s = c .before .before .before .before .before .before in
+    let l = c .before .before .before .loop in
+    let p = c .before .entry-of .result in (
       omega arith,
       simp length-set (l .inv .1),
-      below-set 2 (l .out) (getD a (l .i) 0) _ (omega arith) (l .inv .2),
-      flip-more (s .args .f .count) (l .i) _ a (l .out) (omega arith) (omega arith) refl (l .inv .3),
+      below-set 2 (l .out) p _ (omega (arith, bit (c .before))) (l .inv .2),
+      flip-more (s .args .f .count) (l .i) _ (s .args .f .at) (l .out) (omega arith) (omega arith) (c .before .entry-of .ensures) (l .inv .3),
     )
 
 same-length : tie.Need-same-length Inv-loop μ-loop
@@ -64,7 +68,7 @@ same-length c = search needs
 
 returns : tie.Need-returns Inv-loop μ-loop
 returns c =
-    let s = c .before .before .before in
+    let s = c .before .before .before .before in
     let l = c .before .loop in
     flip-end (s .args .f .count) (l .i) (s .args .f .at) (l .out) (omega arith) (omega arith) (l .inv .3)
 
@@ -75,8 +79,7 @@ flip-at-spec =
     Inv-loop
     μ-loop
     loop-holds
-    mul-p
-    array-read-p
+    entry-of-requires
     slice-read-out
     sub-out
     slice-write-out

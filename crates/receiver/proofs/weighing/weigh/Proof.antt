@@ -24,38 +24,40 @@ abbrev μ-loop : tie.MeasureT-loop
 -- the weight after the turn
 abbrev Turned : tie.After-flipped Inv-loop μ-loop → ℕ → ℕ → Type 0
 Turned c q sum =
-    let a = c .before .before .before .before .before .before .args in
+    let a = c .before .before .before .before .before .before .before .args in
     Weighs (reliabilities (a .s .now))
-    (flippedAt (take (c .before .before .before .loop .a + 1) (take (a .f .count) (a .f .at))) (test (a .p) (a .s .now) (a .j)))
+    (flippedAt (take (c .before .before .before .before .loop .a + 1) (take (a .f .count) (a .f .at))) (test (a .p) (a .s .now) (a .j)))
     (hardBits (a .s .now)) q sum
 
 -- at a position that the test word flips ..
-back : (c : tie.After-flipped Inv-loop μ-loop) → c .flipped .result ≡ true → (1 ≤ c .before .before .before .loop .q)
-    × (c .before .z-at .result ≤ c .before .before .before .loop .sum)
-    × Turned c (c .before .before .before .loop .q - 1) (c .before .before .before .loop .sum - c .before .z-at .result)
+back : (c : tie.After-flipped Inv-loop μ-loop) → c .flipped .result ≡ true → (1 ≤ c .before .before .before .before .loop .q)
+    × (c .before .z-at .result ≤ c .before .before .before .before .loop .sum)
+    × Turned c (c .before .before .before .before .loop .q - 1) (c .before .before .before .before .loop .sum - c .before .z-at .result)
 back c h =
-    let s = c .before .before .before .before .before .before in
+    let s = c .before .before .before .before .before .before .before in
     let a = s .args in
-    let l = c .before .before .before .loop in
+    let l = c .before .before .before .before .loop in
+    let x = c .before .before .entry-of .ensures in
     back-at (a .s .now) (a .keys .at) (a .p) (s .pre .0) (a .j) (a .f .at) (a .f .count) (l .a) (l .q) (l .sum)
-    (c .before .z-at .result) (s .pre .1 .0 .2) (omega arith) (omega arith) (c .before .z-at .ensures .0) (l .inv .1) (sym h ∙ c .flipped .ensures)
+    (c .before .z-at .result) (s .pre .1 .0 .2) (omega arith) (omega arith) (rw x at (c .before .z-at .ensures .0)) (l .inv .1) (rw x at (sym h ∙ c .flipped .ensures))
 
 -- .. and at another
 out : (c : tie.After-flipped Inv-loop μ-loop) → c .flipped .result ≡ false
-    → Turned c (c .before .before .before .loop .q + 1) (c .before .before .before .loop .sum + c .before .z-at .result)
+    → Turned c (c .before .before .before .before .loop .q + 1) (c .before .before .before .before .loop .sum + c .before .z-at .result)
 out c h =
-    let s = c .before .before .before .before .before .before in
+    let s = c .before .before .before .before .before .before .before in
     let a = s .args in
-    let l = c .before .before .before .loop in
+    let l = c .before .before .before .before .loop in
+    let x = c .before .before .entry-of .ensures in
     out-at (a .s .now) (a .keys .at) (a .p) (s .pre .0) (a .j) (a .f .at) (a .f .count) (l .a) (l .q) (l .sum)
-    (c .before .z-at .result) (s .pre .1 .0 .2) (omega arith) (omega arith) (c .before .z-at .ensures .0) (l .inv .1) (sym h ∙ c .flipped .ensures)
+    (c .before .z-at .result) (s .pre .1 .0 .2) (omega arith) (omega arith) (rw x at (c .before .z-at .ensures .0)) (l .inv .1) (rw x at (sym h ∙ c .flipped .ensures))
 
 -- the weight so far is small
-few : (c : tie.After-flipped Inv-loop μ-loop) → (c .before .before .before .loop .q ≤ 1023) × (c .before .before .before .loop .sum ≤ 15345)
+few : (c : tie.After-flipped Inv-loop μ-loop) → (c .before .before .before .before .loop .q ≤ 1023) × (c .before .before .before .before .loop .sum ≤ 15345)
 few c =
-    let s = c .before .before .before .before .before .before in
+    let s = c .before .before .before .before .before .before .before in
     let a = s .args in
-    let l = c .before .before .before .loop in
+    let l = c .before .before .before .before .loop in
     weighs-small (a .s .now) _ (l .q) (l .sum) (s .pre .0 .most)
     (length-candidate (a .s .now) (a .keys .at) (a .p) (s .pre .0) (a .j) (take (l .a) (take (a .f .count) (a .f .at)))) (l .inv .1)
 
@@ -65,23 +67,23 @@ loop-holds c =
     let a = s .args in
     (omega arith, start-weighs (a .s .now) (a .keys .at) (a .p) (s .pre .0) (a .j) (a .start) (take (a .f .count) (a .f .at)) (s .pre .1 .1))
 
-mul-x : tie.Need-mul-x Inv-loop μ-loop
-mul-x c = omega arith
-
-array-read-x : tie.Need-array-read-x Inv-loop μ-loop
-array-read-x c = omega arith
+entry-of-requires : tie.Need-entry-of-requires Inv-loop μ-loop
+entry-of-requires c κs =
+    let s = c .before .before .before .before in
+    (omega arith, s .pre .1 .0 .1)
 
 z-at-requires : tie.Need-z-at-requires Inv-loop μ-loop
 z-at-requires c κs =
-    let s = c .before .before .before .before in
+    let s = c .before .before .before .before .before in
     let a = s .args in
-    let l = c .before .loop in
-    next-below (a .s .now) (a .keys .at) (a .p) (s .pre .0) (a .j) (a .f .at) (a .f .count) (l .a) (l .q) (l .sum)
-    (getD (reliabilities (a .s .now)) (getD (a .f .at) (l .a) 0) 0) (s .pre .1 .0 .2) (omega arith) (omega arith) refl (l .inv .1)
+    let l = c .before .before .loop in
+    rw (c .entry-of .ensures)
+    (next-below (a .s .now) (a .keys .at) (a .p) (s .pre .0) (a .j) (a .f .at) (a .f .count) (l .a) (l .q) (l .sum)
+    (getD (reliabilities (a .s .now)) (getD (a .f .at) (l .a) 0) 0) (s .pre .1 .0 .2) (omega arith) (omega arith) refl (l .inv .1))
 
 flipped-requires : tie.Need-flipped-requires Inv-loop μ-loop
 flipped-requires c κs =
-    let s = c .before .before .before .before .before in
+    let s = c .before .before .before .before .before .before in
     (s .pre .0, c .z-at .ensures .0)
 
 sub-q : tie.Need-sub-q Inv-loop μ-loop
@@ -123,8 +125,7 @@ weigh-spec =
     Inv-loop
     μ-loop
     loop-holds
-    mul-x
-    array-read-x
+    entry-of-requires
     z-at-requires
     flipped-requires
     sub-q
