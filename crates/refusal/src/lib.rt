@@ -20,7 +20,7 @@ pub enum Check {
 }
 
 // Refused with a number, at a place.
-fn refuse(number: usize, place: usize) -> Check
+pub fn refuse(number: usize, place: usize) -> Check
     ensures { λ r. ⌜ checked r ≡ refused number place ⌝ }
 {
     Check::Refused(Refusal {

@@ -8,7 +8,9 @@ use Rattle.bch.specs.Code.{Code}
 use Rattle.bch.specs.Encode.{encoded}
 use Rattle.bch.specs.Hard.{hardFlips, hardWritten}
 use Rattle.chase.specs.Soft.{Answer, softStage, softWritten}
+use lib.Ieee.{Float}
 use Rattle.take_format.specs.Refusal.{Refusal, encodeRefusal, hardRefusal, softRefusal}
+use Rattle.take_format.specs.Samples.{ladderCheck, quantised, samplesRefusal}
 
 -- a call's answer: the refusal, where there is one
 unfoldable pub answered : {A : Type 0} → Option Refusal → A → Refusal ⊎ A
@@ -48,3 +50,16 @@ softAnswer c p symbols codeword = answered (softRefusal c p symbols codeword) (s
 unfoldable pub softBuffer : Code → ℕ → List ℕ → List ℕ → List ℕ
 unfolding unlessRefused
 softBuffer c p symbols codeword = unlessRefused (softRefusal c p symbols codeword) codeword (softWritten (softStage c p symbols) codeword)
+
+-- ---- making a ladder answers a refusal, or the edges as they are
+
+unfoldable pub ladderAnswer : List Float → Refusal ⊎ List Float
+unfolding answered
+ladderAnswer es = answered (ladderCheck es) es
+
+-- ---- quantising answers a refusal or none
+
+-- the symbols' buffer then holds the samples' symbols
+unfoldable pub quantisedBuffer : List Float → List ℕ → List Float → List ℕ → List ℕ
+unfolding unlessRefused
+quantisedBuffer es kinds levels symbols = unlessRefused (samplesRefusal kinds levels symbols) symbols (quantised es kinds levels)
