@@ -1,13 +1,17 @@
 // How long a call takes.
 ghost use Prim.Native.Nat.{_≤_, _<_};
 use crate::batch;
+use crate::samples;
+use quantiser::Ladder;
 
-// What is timed: `encode` of a message, `decode_hard` of a word, or `decode_soft` at a depth of each
-// word of a batch.
+// What is timed: `encode` of a message, `decode_hard` of a word, `decode_soft` at a depth of each word
+// of a batch, or `quantise` with a ladder of samples of the kinds that are the input (into symbols,
+// which take the place of the codeword; m and t are of no use there).
 pub enum Call {
     Encode,
     Hard,
     Soft(usize),
+    Quantise(Ladder),
 }
 
 // The longest round that is told apart, in microseconds.
@@ -60,6 +64,16 @@ fn batch_all(m: usize, t: usize, depth: usize, words: &[u8], codeword: &mut [u8]
     }
 }
 
+// Quantises the samples as often as said.
+fn quantise_all(ladder: Ladder, kinds: &[u8], symbols: &mut [u8], calls: usize) {
+    let levels = samples::levels();
+    let mut left = calls;
+    while 0 < left {
+        quantiser::quantise(ladder, kinds, &levels, symbols);
+        left -= 1;
+    }
+}
+
 // Makes the calls.
 fn call_all(call: Call, m: usize, t: usize, input: &[u8], codeword: &mut [u8], calls: usize) {
     match call {
@@ -71,6 +85,9 @@ fn call_all(call: Call, m: usize, t: usize, input: &[u8], codeword: &mut [u8], c
         }
         Call::Soft(depth) => {
             batch_all(m, t, depth, input, codeword, calls);
+        }
+        Call::Quantise(ladder) => {
+            quantise_all(ladder, input, codeword, calls);
         }
     }
 }

@@ -1,12 +1,14 @@
-// Measures the three calls. With the argument `time` it prints, for each of four codes n k t, how many
+// Measures the four calls. With the argument `time` it prints, for each of four codes n k t, how many
 // nanoseconds of processor time one call of `encode` takes, in all and for each message bit, and one
-// call of `decode_hard` on a codeword with 0, t and t + 1 errors; and for two codes, two levels of
-// noise and three depths, how many one call of `decode_soft` takes, on the average over 32 noisy
-// words. With no argument it makes the same calls once and prints only what they answer.
+// call of `decode_hard` on a codeword with 0, t and t + 1 errors; for two codes, two levels of noise
+// and three depths, how many one call of `decode_soft` takes, on the average over 32 noisy words; and
+// how many one call of `quantise` takes, in all and for each sample, with no blanks and with half of
+// the samples blank. With no argument it makes the same calls once and prints only what they answer.
 mod batch;
 mod clock;
 mod noise;
 mod print;
+mod samples;
 mod soft;
 mod words;
 
@@ -55,6 +57,7 @@ fn encode_row(timed: bool, m: usize, t: usize, message: &[u8], codeword: &mut [u
     print::time_of(
         clock::best(Call::Encode, m, t, message, codeword),
         message.len(),
+        b" a bit",
     );
     text(b"\n");
 }
@@ -119,14 +122,15 @@ fn code_rows(
     rows(timed, m, t, step, message, word, codeword);
 }
 
-// The rows of the four codes (at each step the word with t + 1 errors is lost), and those of
-// `decode_soft`.
+// The rows of the four codes (at each step the word with t + 1 errors is lost), those of
+// `decode_soft`, and those of `quantise`.
 fn all_rows(timed: bool) {
     code_rows(timed, 5, 2, 9, &mut [0; 21], &mut [0; 31], &mut [0; 31]);
     code_rows(timed, 6, 2, 20, &mut [0; 51], &mut [0; 63], &mut [0; 63]);
     code_rows(timed, 8, 2, 80, &mut [0; 239], &mut [0; 255], &mut [0; 255]);
     code_rows(timed, 8, 3, 61, &mut [0; 231], &mut [0; 255], &mut [0; 255]);
     soft::rows(timed);
+    samples::rows(timed);
 }
 
 // Whether the first argument is `time`.

@@ -15,14 +15,14 @@ struct Drawn {
 const SEED: u32 = 13844;
 
 // The next number of a 32-bit xorshift.
-fn next(x: u32) -> u32 {
+pub fn next(x: u32) -> u32 {
     let a = x ^ (x << 13);
     let b = a ^ (a >> 17);
     b ^ (b << 5)
 }
 
 // Draws any bits.
-fn draw_bits(last: u32, bits: &mut [u8]) -> u32 {
+pub fn draw_bits(last: u32, bits: &mut [u8]) -> u32 {
     let mut x = last;
     let mut i = 0;
     while i < bits.len() {

@@ -20,11 +20,11 @@ pub fn time(tenths: usize) {
     text(b" ns");
 }
 
-// Writes the tenths of a nanosecond that a message of that many bits takes, and those of one bit.
-pub fn time_of(tenths: usize, bits: usize) {
+// Writes the tenths of a nanosecond that so many parts take, and those of one part, with what it is.
+pub fn time_of(tenths: usize, parts: usize, part: &[u8]) {
     time(tenths);
-    if 0 < bits {
-        time(tenths / bits);
-        text(b" a bit");
+    if 0 < parts {
+        time(tenths / parts);
+        text(part);
     }
 }
