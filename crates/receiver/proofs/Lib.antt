@@ -1,3 +1,4 @@
 pub mod Margins
+pub mod Marks
 pub mod Outcomes
 pub mod Tellings

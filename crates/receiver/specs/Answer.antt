@@ -5,11 +5,15 @@ use mathlib.Core.List.{List}
 use mathlib.Core.Option.{Option, none, some}
 use Rattle.chase.specs.Soft.{Answer, fair, sure, lostAnswer}
 use Rattle.take_format.specs.Refusal.{Refusal}
+use Rattle.take_format.specs.Batch.{Totals}
 use Rattle.refusal.specs.Checked.{refusalOf}
 use Rattle.receiver.specs.declared.Hard.{Hard}
 use Rattle.receiver.specs.declared.Hard.the-variants.{Refused, Lost, Found}
 use Rattle.receiver.specs.declared.Soft.{Soft}
 use Rattle.receiver.specs.declared.Soft.the-variants.{Refused as Soft·Refused, Lost as Soft·Lost, Fair, Sure}
+use Rattle.receiver.specs.declared.Totals as struct
+use Rattle.receiver.specs.declared.Words.{Words}
+use Rattle.receiver.specs.declared.Words.the-variants.{Refused as Words·Refused, Decoded}
 
 -- the hard stage's answer: a refusal; or none, for a word that is lost, or the number of flips
 unfoldable pub hardOf : Hard → Refusal ⊎ Option ℕ
@@ -25,3 +29,12 @@ softOf (Soft·Refused r) word = inl (refusalOf r)
 softOf (Soft·Lost tries) word = inr (lostAnswer tries)
 softOf (Fair L margin q j tries) word = inr (record { mark = fair; distance = L; margin = margin; flips = q; place = j; tries = tries; word = word })
 softOf (Sure L margin q j tries) word = inr (record { mark = sure; distance = L; margin = margin; flips = q; place = j; tries = tries; word = word })
+
+-- the five totals
+abbrev pub totalsTold : struct.Totals → Totals
+totalsTold k = record { words = k .words; sures = k .sure; fairs = k .fair; losts = k .lost; tries = k .tries }
+
+-- the answer to several words: a refusal, or their totals
+unfoldable pub wordsOf : Words → Refusal ⊎ Totals
+wordsOf (Words·Refused r) = inl (refusalOf r)
+wordsOf (Decoded k) = inr (totalsTold k)

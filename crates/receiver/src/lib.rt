@@ -20,11 +20,12 @@
 // private modules.
 ghost use mathlib.Core.Path.{_≡_};
 ghost use Rattle.bch.specs.Code.{code};
-ghost use Rattle.take_format.specs.Calls.{hardAnswer, hardBuffer, softAnswer, softBuffer};
-ghost use Rattle.receiver.specs.Answer.{hardOf, softOf};
+ghost use Rattle.take_format.specs.Calls.{hardAnswer, hardBuffer, softAnswer, softBuffer, wordsAnswer, messagesBuffer, marksBuffer};
+ghost use Rattle.receiver.specs.Answer.{hardOf, softOf, wordsOf};
 use refusal::Check;
 use refusal::Refusal;
 
+mod batch;
 mod decision;
 mod field;
 mod locate;
@@ -113,4 +114,52 @@ pub fn decode_soft(
         Check::Passed => {}
     }
     decision::decode(m, t, n, depth, symbols, codeword)
+}
+
+// What the words of a call add up to: how many there are, how many have each mark, and the tries of all.
+pub struct Totals {
+    pub words: usize,
+    pub sure: usize,
+    pub fair: usize,
+    pub lost: usize,
+    pub tries: usize,
+}
+
+// The answer to several words: a refusal, or their totals.
+pub enum Words {
+    Refused(Refusal),
+    Decoded(Totals),
+}
+
+// Decodes so many words of n symbols, one after the other, with tables that are filled once, and writes for each of them the k bytes of
+// its message (0 where it is lost) and a mark's byte, 0 lost, 1 fair, 2 sure. Any m, t, n, depth, symbols and buffers may be
+// handed in.
+pub fn decode_words(
+    m: usize,
+    t: usize,
+    n: usize,
+    depth: usize,
+    words: u16,
+    symbols: &[u8],
+    messages: &mut [u8],
+    marks: &mut [u8],
+) -> Words
+    ensures { λ r. ⌜ wordsOf r ≡ wordsAnswer (code m t n) depth words (now (symbols .entry)) (now (messages .entry)) (now (marks .entry)) ⌝ }
+    ensures { λ _. ⌜ now (messages .exit) ≡ messagesBuffer (code m t n) depth words (now (symbols .entry)) (now (messages .entry)) (now (marks .entry)) ⌝ }
+    ensures { λ _. ⌜ now (marks .exit) ≡ marksBuffer (code m t n) depth words (now (symbols .entry)) (now (messages .entry)) (now (marks .entry)) ⌝ }
+{
+    match refusal::settings(m, t, n) {
+        Check::Refused(r) => {
+            return Words::Refused(r);
+        }
+        Check::Passed => {}
+    }
+    let count = words as usize;
+    match batch::check(m, t, n, depth, count, symbols, messages.len(), marks.len()) {
+        Check::Refused(r) => {
+            return Words::Refused(r);
+        }
+        Check::Passed => {}
+    }
+    Words::Decoded(batch::decode(m, t, n, depth, count, symbols, messages, marks))
 }

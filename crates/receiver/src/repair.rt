@@ -20,7 +20,7 @@ use crate::roots;
 use crate::syndrome;
 
 // Copies the bits.
-fn copy(bits: &[u8], out: &mut [u8])
+pub fn copy(bits: &[u8], out: &mut [u8])
     requires { ⌜ length (now out) ≡ length (now bits) ⌝ }
     ensures { λ _. ⌜ now (out .exit) ≡ now (bits .entry) ⌝ }
 {

@@ -1,5 +1,5 @@
 -- Laws of the checks: what holds where none of them refuses. Assumes nothing.
-use Prim.Native.Nat.{ℕ, suc, _+_, _-_, _^_, _≤_, _<_}
+use Prim.Native.Nat.{ℕ, suc, _+_, _-_, _^_, _≤_, _<_, _*_}
 use native.Mathlib.Omega.{arith}
 use native.Mathlib.Numerals.{add-one}
 use mathlib.Core.Path.{_≡_, refl}
@@ -12,9 +12,9 @@ use lib.ListN.{length, getD, drop}
 use lib.Seq.{drop-cons, drop-length}
 use Rattle.galois.proofs.Tests.{and-left, and-right}
 use Rattle.bch.specs.Words.{Below, Bits}
-use Rattle.bch.specs.Code.{Code, IsCode, parityLength, wordLength}
+use Rattle.bch.specs.Code.{Code, IsCode, parityLength, wordLength, messageLength}
 use Rattle.chase.specs.Word.{Symbols}
-use Rattle.take_format.specs.Refusal.{Refusal, refused, unless, unlessAtMost, firstOf, settings, depthCheck, inputLength, outputLength, bitBytes, symbolBytes, bitsCheck, bitsRefusal, symbolsCheck, softRefusal}
+use Rattle.take_format.specs.Refusal.{Refusal, refused, unless, unlessAtMost, firstOf, settings, depthCheck, inputLength, outputLength, bitBytes, symbolBytes, bitsCheck, bitsRefusal, symbolsCheck, softRefusal, wordsCheck, wordsRefusal}
 
 -- ---- a list of checks
 
@@ -184,5 +184,40 @@ soft-accepted c p symbols codeword e =
       depth = depth-none p hd;
       long = input-none (wordLength c) (length symbols) hi;
       room = output-none (wordLength c) (length codeword) ho;
+      are-symbols = symbols-none 0 symbols hb;
+    }
+
+-- ---- the call on several words
+
+pub record WordsAccepted (c : Code) (p W : ℕ) (symbols messages marks : List ℕ) : Type 0 where
+  pub isCode : IsCode c
+  pub depth : p ≤ 6
+  pub long : length symbols ≡ W * wordLength c
+  pub messages-room : length messages ≡ W * messageLength c
+  pub marks-room : length marks ≡ W
+  pub are-symbols : Symbols symbols
+
+pub words-accepted : (c : Code) (p W : ℕ) (symbols messages marks : List ℕ) → wordsRefusal c p W symbols messages marks ≡ none
+    → WordsAccepted c p W symbols messages marks
+unfolding wordsRefusal wordsCheck
+words-accepted c p W symbols messages marks e =
+    let d = depthCheck p in
+    let i = inputLength (W * wordLength c) (length symbols) in
+    let o = outputLength (W * messageLength c) (length messages) in
+    let k = outputLength W (length marks) in
+    let b = symbolBytes 0 symbols in
+    let (s, call) = first-append (settings c) (firstOf (d ∷ i ∷ o ∷ k ∷ b ∷ []) ∷ []) e in
+    let (all, _) = first-cons (firstOf (d ∷ i ∷ o ∷ k ∷ b ∷ [])) [] call in
+    let (hd, more) = first-cons d (i ∷ o ∷ k ∷ b ∷ []) all in
+    let (hi, rest) = first-cons i (o ∷ k ∷ b ∷ []) more in
+    let (ho, rooms) = first-cons o (k ∷ b ∷ []) rest in
+    let (hk, last) = first-cons k (b ∷ []) rooms in
+    let (hb, _) = first-cons b [] last in
+    record {
+      isCode = settings-code c s;
+      depth = depth-none p hd;
+      long = input-none (W * wordLength c) (length symbols) hi;
+      messages-room = output-none (W * messageLength c) (length messages) ho;
+      marks-room = output-none W (length marks) hk;
       are-symbols = symbols-none 0 symbols hb;
     }

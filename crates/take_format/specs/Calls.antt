@@ -4,12 +4,13 @@ use Prim.Native.Nat.{ℕ}
 use mathlib.Core.Logic.{_⊎_, inl, inr}
 use mathlib.Core.List.{List}
 use mathlib.Core.Option.{Option, none, some}
+use lib.Ieee.{Float}
 use Rattle.bch.specs.Code.{Code}
 use Rattle.bch.specs.Encode.{encoded}
 use Rattle.bch.specs.Hard.{hardFlips, hardWritten}
 use Rattle.chase.specs.Soft.{Answer, softStage, softWritten}
-use lib.Ieee.{Float}
-use Rattle.take_format.specs.Refusal.{Refusal, encodeRefusal, hardRefusal, softRefusal}
+use Rattle.take_format.specs.Refusal.{Refusal, encodeRefusal, hardRefusal, softRefusal, wordsRefusal}
+use Rattle.take_format.specs.Batch.{answersTo, messagesOf, marksOf, Totals, totalsOf}
 use Rattle.take_format.specs.Samples.{ladderCheck, quantised, samplesRefusal}
 
 -- a call's answer: the refusal, where there is one
@@ -50,6 +51,24 @@ softAnswer c p symbols codeword = answered (softRefusal c p symbols codeword) (s
 unfoldable pub softBuffer : Code → ℕ → List ℕ → List ℕ → List ℕ
 unfolding unlessRefused
 softBuffer c p symbols codeword = unlessRefused (softRefusal c p symbols codeword) codeword (softWritten (softStage c p symbols) codeword)
+
+-- ---- W words answer a refusal, or the totals of what the search at depth p gives each
+
+unfoldable pub wordsAnswer : Code → ℕ → ℕ → List ℕ → List ℕ → List ℕ → Refusal ⊎ Totals
+unfolding answered
+wordsAnswer c p W symbols messages marks = answered (wordsRefusal c p W symbols messages marks) (totalsOf (answersTo c p W symbols))
+
+-- the messages' buffer then holds the messages, ..
+unfoldable pub messagesBuffer : Code → ℕ → ℕ → List ℕ → List ℕ → List ℕ → List ℕ
+unfolding unlessRefused
+messagesBuffer c p W symbols messages marks =
+    unlessRefused (wordsRefusal c p W symbols messages marks) messages (messagesOf c (answersTo c p W symbols))
+
+-- .. and the marks' buffer the marks
+unfoldable pub marksBuffer : Code → ℕ → ℕ → List ℕ → List ℕ → List ℕ → List ℕ
+unfolding unlessRefused
+marksBuffer c p W symbols messages marks =
+    unlessRefused (wordsRefusal c p W symbols messages marks) marks (marksOf (answersTo c p W symbols))
 
 -- ---- making a ladder answers a refusal, or the edges as they are
 
