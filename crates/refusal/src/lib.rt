@@ -2,6 +2,7 @@
 // them makes.
 ghost use mathlib.Core.Path.{_≡_};
 ghost use Prim.Native.Nat.{_*_, _≤_, _^_};
+ghost use lib.ListN.{drop};
 ghost use Rattle.bch.specs.Code.{code};
 ghost use Rattle.take_format.specs.Refusal.{firstOf, refused, unlessAtMost, bitsCheck, symbolsCheck};
 ghost use Rattle.take_format.specs.Refusal.{settings as Refusal·settings};
@@ -87,11 +88,11 @@ fn highest(bytes: &[u8]) -> u8
     most
 }
 
-// The first byte above `most`, refused with a number.
-fn first_above(number: usize, most: u8, bytes: &[u8]) -> Check
-    ensures { λ r. ⌜ checked r ≡ unlessAtMost number most 0 (now (bytes .entry)) ⌝ }
+// The first byte above `most` from place `start` on, refused with a number.
+fn first_above(number: usize, most: u8, bytes: &[u8], start: usize) -> Check
+    ensures { λ r. ⌜ checked r ≡ unlessAtMost number most start (drop start (now (bytes .entry))) ⌝ }
 {
-    let mut i = 0;
+    let mut i = start;
     while i < bytes.len() {
         if most < bytes[i] {
             return refuse(number, i);
@@ -101,14 +102,24 @@ fn first_above(number: usize, most: u8, bytes: &[u8]) -> Check
     Check::Passed
 }
 
-// Bytes that are at most `most`, refused otherwise with a number at the first that is above.
+// Bytes that are at most `most` from place `start` on, refused otherwise with a number at the first that is above.
+pub fn at_most_from(number: usize, most: u8, bytes: &[u8], start: usize) -> Check
+    ensures { λ r. ⌜ checked r ≡ unlessAtMost number most start (drop start (now (bytes .entry))) ⌝ }
+{
+    if bytes.len() <= start {
+        return Check::Passed;
+    }
+    if highest(&bytes[start..]) <= most {
+        return Check::Passed;
+    }
+    first_above(number, most, bytes, start)
+}
+
+// All bytes.
 pub fn at_most(number: usize, most: u8, bytes: &[u8]) -> Check
     ensures { λ r. ⌜ checked r ≡ unlessAtMost number most 0 (now (bytes .entry)) ⌝ }
 {
-    if highest(bytes) <= most {
-        return Check::Passed;
-    }
-    first_above(number, most, bytes)
+    at_most_from(number, most, bytes, 0)
 }
 
 // The k bits that a call takes, and the room of n bytes that it writes to: 6, 7, 8.

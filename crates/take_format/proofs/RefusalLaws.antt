@@ -2,14 +2,14 @@
 use Prim.Native.Nat.{ℕ, suc, _+_, _-_, _^_, _≤_, _<_, _*_}
 use native.Mathlib.Omega.{arith}
 use native.Mathlib.Numerals.{add-one}
-use mathlib.Core.Path.{_≡_, refl}
+use mathlib.Core.Path.{_≡_, refl, ap, sym}
 use mathlib.Core.Bool.{Bool, true, false, _&&_}
 use mathlib.Core.List.{List, [], _∷_, _++_}
 use mathlib.Core.Option.{Option, none, some}
 use borrow.Author.Tests.{leb-true, le-leb, lt-leb}
 use lib.Dec.{T, leb, eqb, leb→le, eqb→eq}
-use lib.ListN.{length, getD, drop}
-use lib.Seq.{drop-cons, drop-length}
+use lib.ListN.{length, getD, drop, drop-of-length-le}
+use lib.Seq.{drop-cons}
 use Rattle.galois.proofs.Tests.{and-left, and-right}
 use Rattle.bch.specs.Words.{Below, Bits}
 use Rattle.bch.specs.Code.{Code, IsCode, parityLength, wordLength, messageLength}
@@ -77,9 +77,9 @@ module _ (k most i : ℕ) (xs : List ℕ) where
   above-later h w = rw (add-one, drop-cons xs i 0 h, unlessAtMost, le-leb (getD xs i 0) most w)
 
   -- .. and at the end none is
-  pub above-none : i ≡ length xs → none ≡ unlessAtMost k most i (drop i xs)
+  pub above-none : length xs ≤ i → none ≡ unlessAtMost k most i (drop i xs)
   unfolding unlessAtMost
-  above-none h = rw (h, drop-length)
+  above-none h = sym (ap (unlessAtMost k most i) (drop-of-length-le xs h))
 
 -- where no byte is above there is no refusal
 pub all-most : (k most at : ℕ) (xs : List ℕ) → ((i : ℕ) → i < length xs → getD xs i 0 ≤ most) → none ≡ unlessAtMost k most at xs
