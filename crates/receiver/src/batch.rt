@@ -1,8 +1,6 @@
 // Several words of one code, decoded with tables that are filled once.
 ghost use Prim.Native.Nat.{_+_, _-_, _*_, _^_, _<_, _≤_};
 ghost use mathlib.Core.Path.{_≡_};
-ghost use mathlib.Core.Bool.{cond};
-ghost use lib.Dec.{eqb};
 ghost use lib.ListN.{length, replicate};
 ghost use Rattle.galois.proofs.FieldTables.{FieldTables};
 ghost use Rattle.bch.specs.Code.{IsCode, code};
@@ -10,18 +8,19 @@ ghost use Rattle.bch.proofs.Settings.{Lawful};
 ghost use Rattle.bch.proofs.RootTables.{RootTables};
 ghost use Rattle.chase.specs.Soft.{softStage};
 ghost use Rattle.chase.specs.Word.{Symbols};
-ghost use Rattle.take_format.specs.Batch.{message as Batch·message, markByte, countedOf, answersTo, messagesOf, marksOf, totalsOf};
+ghost use Rattle.take_format.specs.Batch.{message as Batch·message, markByte, answersTo, messagesOf, marksOf, totalsOf};
 ghost use Rattle.take_format.specs.Refusal.{wordsCheck};
 ghost use Rattle.take_format.proofs.RefusalLaws.{WordsAccepted};
 ghost use Rattle.refusal.specs.Checked.{checked};
 ghost use Rattle.receiver.specs.Answer.{totalsTold};
-ghost use Rattle.receiver.specs.Told.{Tells};
-use crate::Soft;
+use crate::Told;
 use crate::Totals;
+use crate::counted;
 use crate::decision;
 use crate::field;
 use crate::repair;
 use crate::roots;
+use crate::told_of;
 use refusal::Check;
 use refusal::refuse;
 
@@ -62,33 +61,6 @@ fn clear(message: &mut [u8])
     while i < message.len() {
         message[i] = 0;
         i += 1;
-    }
-}
-
-// What is told of a word: its mark's byte, and the tries made.
-pub struct Told {
-    pub mark: u8,
-    pub tries: usize,
-}
-
-// The mark's byte, 0 lost, 1 fair and 2 sure, and the tries of an answer.
-fn told_of(answer: Soft) -> Told
-    ensures { λ r. ⌜ Tells answer r ⌝ }
-{
-    match answer {
-        Soft::Refused(_) => Told { mark: 0, tries: 0 },
-        Soft::Lost { tries } => Told {
-            mark: 0,
-            tries: tries,
-        },
-        Soft::Fair { tries, .. } => Told {
-            mark: 1,
-            tries: tries,
-        },
-        Soft::Sure { tries, .. } => Told {
-            mark: 2,
-            tries: tries,
-        },
     }
 }
 
@@ -136,28 +108,6 @@ fn decode_word(
     }
     repair::copy(&codeword[m * t..n], message);
     told
-}
-
-// 1 where a mark is this one, otherwise 0.
-fn one_if(mark: u8, this: u8) -> usize
-    ensures { λ r. ⌜ r ≡ cond (eqb this mark) 1 0 ⌝ }
-    ensures { λ r. ⌜ r ≤ 1 ⌝ }
-{
-    if this == mark { 1 } else { 0 }
-}
-
-// The totals with one more word.
-fn counted(totals: Totals, told: Told) -> Totals
-    requires { ⌜ (totals .words < 65536) × (totals .sure < 65536) × (totals .fair < 65536) × (totals .lost < 65536) × (totals .tries ≤ 4194304) × (told .tries ≤ 64) ⌝ }
-    ensures { λ r. ⌜ totalsTold r ≡ countedOf (totalsTold totals) (told .mark) (told .tries) ⌝ }
-{
-    Totals {
-        words: totals.words + 1,
-        sure: totals.sure + one_if(told.mark, 2),
-        fair: totals.fair + one_if(told.mark, 1),
-        lost: totals.lost + one_if(told.mark, 0),
-        tries: totals.tries + told.tries,
-    }
 }
 
 // All words, one after the other.

@@ -18,10 +18,14 @@
 // soft stage ranks the symbols (`ranking`), has the syndromes and the weight of each test word without writing it out (`tests`),
 // locates and weighs one test word after the other (`search`, `weighing`) and only then writes (`decision`). What has a `requires` is in
 // private modules.
+ghost use Prim.Native.Nat.{_+_, _-_, _^_, min};
 ghost use mathlib.Core.Path.{_≡_};
+ghost use mathlib.Core.Bool.{cond};
+ghost use lib.Dec.{eqb};
 ghost use Rattle.bch.specs.Code.{code};
 ghost use Rattle.take_format.specs.Calls.{hardAnswer, hardBuffer, softAnswer, softBuffer, wordsAnswer, messagesBuffer, marksBuffer};
-ghost use Rattle.receiver.specs.Answer.{hardOf, softOf, wordsOf};
+ghost use Rattle.take_format.specs.Batch.{countedOf, capped};
+ghost use Rattle.receiver.specs.Answer.{hardOf, softOf, markOf, triesOf, totalsTold, wordsOf};
 use refusal::Check;
 use refusal::Refusal;
 
@@ -123,6 +127,64 @@ pub struct Totals {
     pub fair: usize,
     pub lost: usize,
     pub tries: usize,
+}
+
+// What the totals need of a word's answer: its mark's byte, 0 lost, 1 fair, 2 sure, and the tries made.
+pub struct Told {
+    pub mark: u8,
+    pub tries: usize,
+}
+
+// The mark's byte and the tries of an answer. A refusal, which no total counts, has 0 and 0.
+pub fn told_of(answer: Soft) -> Told
+    ensures { λ r. ⌜ (r .mark ≡ markOf answer) × (r .tries ≡ triesOf answer) ⌝ }
+{
+    match answer {
+        Soft::Refused(_) => Told { mark: 0, tries: 0 },
+        Soft::Lost { tries } => Told {
+            mark: 0,
+            tries: tries,
+        },
+        Soft::Fair { tries, .. } => Told {
+            mark: 1,
+            tries: tries,
+        },
+        Soft::Sure { tries, .. } => Told {
+            mark: 2,
+            tries: tries,
+        },
+    }
+}
+
+// 1 where a mark is this one, otherwise 0.
+fn one_if(mark: u8, this: u8) -> usize
+    ensures { λ r. ⌜ r ≡ cond (eqb this mark) 1 0 ⌝ }
+{
+    if this == mark { 1 } else { 0 }
+}
+
+// The sum, or the largest number where that is less.
+fn plus(a: usize, b: usize) -> usize
+    ensures { λ r. ⌜ r ≡ min (a + b) (2 ^ 64 - 1) ⌝ }
+{
+    let room = 18446744073709551615 - a;
+    if room < b {
+        return 18446744073709551615;
+    }
+    a + b
+}
+
+// The totals with one more word.
+pub fn counted(totals: Totals, told: Told) -> Totals
+    ensures { λ r. ⌜ totalsTold r ≡ capped (countedOf (totalsTold totals) (told .mark) (told .tries)) ⌝ }
+{
+    Totals {
+        words: plus(totals.words, 1),
+        sure: plus(totals.sure, one_if(told.mark, 2)),
+        fair: plus(totals.fair, one_if(told.mark, 1)),
+        lost: plus(totals.lost, one_if(told.mark, 0)),
+        tries: plus(totals.tries, told.tries),
+    }
 }
 
 // The answer to several words: a refusal, or their totals.

@@ -61,7 +61,7 @@ unfolding wordsCheck
 returns-3 c =
     let a = c .before .before .before .before .before .args in
     let k = a .words * (a .n - a .m * a .t) in
-    c .refuse3 .ensures ∙ sym (simp (le-leb (a .p) 6 (c .before .before .before .if1 .left), eq-eqb (length (a .symbols .now)) (a .words * a .n) (c .before .before .if2 .left), ne-eqb (a .messages) k (c .before .if3 .taken)))
+    c .refuse3 .ensures ∙ sym (simp (le-leb (a .p) 6 (c .before .before .before .if1 .left), eq-eqb (length (a .symbols .now)) (a .words * a .n) (c .before .before .if2 .left), ne-eqb (a .messages) k (λ q. omega (arith, c .before .if3 .taken, q))))
 
 refuse-requires-4 : tie.Need-refuse-requires-4
 refuse-requires-4 c κs = search needs
@@ -71,7 +71,7 @@ unfolding wordsCheck
 returns-4 c =
     let a = c .before .before .before .before .before .before .args in
     let k = a .words * (a .n - a .m * a .t) in
-    c .refuse4 .ensures ∙ sym (simp (le-leb (a .p) 6 (c .before .before .before .before .if1 .left), eq-eqb (length (a .symbols .now)) (a .words * a .n) (c .before .before .before .if2 .left), eq-eqb (a .messages) k (c .before .before .if3 .left), ne-eqb (a .marks) (a .words) (c .before .if4 .taken)))
+    c .refuse4 .ensures ∙ sym (simp (le-leb (a .p) 6 (c .before .before .before .before .if1 .left), eq-eqb (length (a .symbols .now)) (a .words * a .n) (c .before .before .before .if2 .left), eq-eqb (a .messages) k (omega (arith, c .before .before .if3 .left)), ne-eqb (a .marks) (a .words) (c .before .if4 .taken)))
 
 at-most-requires : tie.Need-at-most-requires
 at-most-requires c κs = search needs
@@ -81,7 +81,7 @@ unfolding wordsCheck symbolBytes
 returns-5 c =
     let a = c .before .before .before .before .before .before .args in
     let k = a .words * (a .n - a .m * a .t) in
-    c .at-most .ensures ∙ sym (simp (le-leb (a .p) 6 (c .before .before .before .before .if1 .left), eq-eqb (length (a .symbols .now)) (a .words * a .n) (c .before .before .before .if2 .left), eq-eqb (a .messages) k (c .before .before .if3 .left), eq-eqb (a .marks) (a .words) (c .before .if4 .left)) (first-last (symbolBytes 0 (a .symbols .now))))
+    c .at-most .ensures ∙ sym (simp (le-leb (a .p) 6 (c .before .before .before .before .if1 .left), eq-eqb (length (a .symbols .now)) (a .words * a .n) (c .before .before .before .if2 .left), eq-eqb (a .messages) k (omega (arith, c .before .before .if3 .left)), eq-eqb (a .marks) (a .words) (c .before .if4 .left)) (first-last (symbolBytes 0 (a .symbols .now))))
 
 pub check-spec : {M : Type 1} → statement M
 check-spec =

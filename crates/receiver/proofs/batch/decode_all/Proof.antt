@@ -4,43 +4,28 @@ use native.Mathlib.Nat.{suc-mul, zero-mul, mul-le-mul-right}
 use native.Mathlib.Numerals.{add-one}
 use native.Mathlib.Omega.{arith}
 use mathlib.Core.Path.{_≡_, refl, ap, sym, _∙_}
-use mathlib.Core.Bool.{Bool, true, false, cond}
 use mathlib.Core.List.{List}
 use borrow.Author.Needs.{needs}
-use lib.Dec.{eqb}
 use lib.ListN.{length, take, drop, length-take, length-drop, length-set}
 use lib.Pow.{pow-mono}
 use Rattle.bch.specs.Code.{code}
 use Rattle.bch.proofs.Entries.{below-take, below-drop}
 use Rattle.chase.specs.Soft.{softStage}
 use Rattle.chase.specs.Word.{Symbols}
-use Rattle.take_format.specs.Batch.{message, markByte, Totals, countedOf}
-use Rattle.take_format.proofs.Batches.{words-small, Done, done-start, done-more, done-end}
+use Rattle.take_format.specs.Batch.{message, markByte, countedOf}
+use Rattle.take_format.proofs.Batches.{words-small, Few, few-more, few-capped, Done, done-start, done-more, done-end}
 use Rattle.take_format.proofs.PromiseLaws.{message-long, tries-most}
 use Rattle.receiver.specs.Answer.{totalsTold}
-use Rattle.receiver.specs.declared.Totals as struct
 use Rattle.receiver.proofs.batch.decode_all.Statement.{statement}
 use Rattle.receiver.proofs.batch.decode_all.Tie as tie
-
--- the totals of w words are small
-record Few (w : ℕ) (k : struct.Totals) : Type 0 where
-  words : k .words ≤ w
-  sures : k .sure ≤ w
-  fairs : k .fair ≤ w
-  losts : k .lost ≤ w
-  tries : k .tries ≤ 64 * w
 
 abbrev Inv-loop : tie.InvT-loop
 Inv-loop m t n period exps logs powers first second p words symbols codeword₀ messages₀ marks₀ k totals₀ at₀ to₀ w₀ codeword messages marks totals at to w =
     (w ≤ words) × (at ≡ w * n) × (to ≡ w * k) × (length codeword ≡ n) × (length messages ≡ length messages₀) × (length marks ≡ length marks₀)
-    × Done (code m t n) p w symbols messages marks (totalsTold totals) × Few w totals
+    × Done (code m t n) p w symbols messages marks (totalsTold totals) × Few w (totalsTold totals)
 
 abbrev μ-loop : tie.MeasureT-loop
 μ-loop m t n period exps logs powers first second p words symbols codeword₀ messages₀ marks₀ k totals₀ at₀ to₀ w₀ codeword messages marks totals at to w = words - w
-
-one-most : (b : Bool) → cond b 1 0 ≤ 1
-one-most true = omega arith
-one-most false = omega arith
 
 -- word w lies inside
 room : (w W n : ℕ) → w < W → w * n + n ≤ W * n
@@ -159,24 +144,7 @@ slice-write-marks c =
     omega (arith, l .inv .5, inside (c .before .before .before .before .before .before .before .before .before .before .before .before .before .before .before .before .before .before .before) (l .w) (c .before .before .before .before .before .before .before .before .loop-test .taken) .4)
 
 counted-requires : tie.Need-counted-requires Inv-loop μ-loop
-counted-requires c κs =
-    let s = c .before .before .before .before .before .before .before .before .before .before .before .before .before .before .before .before .before .before .before in
-    let a = s .args in
-    let l = c .before .before .before .before .before .before .before .before .before .loop in
-    let h = c .before .before .before .before .before .before .before .before .loop-test .taken in
-    let few = l .inv .7 in
-    let ok = s .pre .1 .1 .1 .1 in
-    let ss = take (l .at + a .n - l .at) (drop (l .at) (a .symbols .now)) in
-    let tried = tries-most (code (a .m) (a .t) (a .n)) (s .pre .1 .1 .0 .0) (omega (arith, ok .isCode .n-least)) (a .p) ss (word-long s (l .w) (l .at) h (l .inv .1)) (word-symbols s (l .at) (l .at + a .n - l .at)) in
-    let most : 2 ^ a .p ≤ 64 = pow-mono (ok .depth) in
-    let W = s .pre .1 .1 .1 .0 in (
-      omega (arith, few .words, W),
-      omega (arith, few .sures, W),
-      omega (arith, few .fairs, W),
-      omega (arith, few .losts, W),
-      omega (arith, few .tries, W),
-      omega (arith, c .before .before .before .before .decode-word .ensures .0 .1, tried, most),
-    )
+counted-requires c κs = search needs
 
 add-at : tie.Need-add-at Inv-loop μ-loop
 add-at c =
@@ -196,18 +164,6 @@ add-w c = omega (arith, c .before .before .before .before .before .before .befor
 loop-less : tie.Need-loop-less Inv-loop μ-loop
 loop-less c = omega (arith, c .before .before .before .before .before .before .before .before .before .loop-test .taken)
 
--- the totals of one more word
-few-more : (w mark tries : ℕ) (b r : struct.Totals) → Few w b → tries ≤ 64 → totalsTold r ≡ countedOf (totalsTold b) mark tries → Few (w + 1) r
-unfolding countedOf
-few-more w mark tries b r f t e =
-    record {
-      words = omega (arith, f .words, ap (λ (k : Totals). k .words) e);
-      sures = omega (arith, f .sures, ap (λ (k : Totals). k .sures) e, one-most (eqb 2 mark));
-      fairs = omega (arith, f .fairs, ap (λ (k : Totals). k .fairs) e, one-most (eqb 1 mark));
-      losts = omega (arith, f .losts, ap (λ (k : Totals). k .losts) e, one-most (eqb 0 mark));
-      tries = omega (arith, f .tries, ap (λ (k : Totals). k .tries) e);
-    }
-
 -- one part more
 more : (w n at : ℕ) → at ≡ w * n → at + n ≡ (w + 1) * n
 more w n at e = omega (arith, e, ap (λ (x : ℕ). x * n) (add-one w), suc-mul w n)
@@ -224,17 +180,21 @@ loop-again c =
     let b = code (a .m) (a .t) (a .n) in
     let xs = a .symbols .now in
     let e = same-part (l .at) (a .n) xs ∙ ap (λ (x : ℕ). take (a .n) (drop x xs)) (l .inv .1) in
-    let few = counted-requires (c .before) (c .counted .lifetimes) .5 in
+    let ok = s .pre .1 .1 .1 .1 in
     let ss = take (l .at + a .n - l .at) (drop (l .at) xs) in
+    let tried = tries-most b (s .pre .1 .1 .0 .0) (omega (arith, ok .isCode .n-least)) (a .p) ss (word-long s (l .w) (l .at) h (l .inv .1)) (word-symbols s (l .at) (l .at + a .n - l .at)) in
+    let most : 2 ^ a .p ≤ 64 = pow-mono (ok .depth) in
+    let few = few-more (l .w) (totalsTold (l .totals)) (l .inv .7) (w .result .mark) (w .result .tries) (omega (arith, w .ensures .0 .1, tried, most)) in
+    let told = c .counted .ensures ∙ few-capped (l .w + 1) (countedOf (totalsTold (l .totals)) (w .result .mark) (w .result .tries)) few (omega (arith, h, s .pre .1 .1 .1 .0)) in
     let long = ap length (w .ensures .1) ∙ message-long b (s .pre .1 .1 .0 .0) (omega (arith, s .pre .1 .1 .1 .1 .isCode .n-least)) (a .p) ss (word-long s (l .w) (l .at) h (l .inv .1)) (word-symbols s (l .at) (l .at + a .n - l .at)) in (
       omega (arith, h),
       more (l .w) (a .n) (l .at) (l .inv .1),
       more (l .w) k (l .to) (l .inv .2),
-      omega (arith, l .inv .3),
+      omega (arith, l .inv .3, w .kept .1 .1 .1 .1 .1 .1 .1 .1 .1 .1 .1 .0),
       omega (arith, l .inv .4),
       simp length-set (l .inv .5),
-      rw (c .counted .ensures) (done-more b (a .p) xs (l .w) (l .messages) (l .marks) (totalsTold (l .totals)) (l .inv .6) (l .to) (w .result .mark) (w .result .tries) _ _ (l .inv .2) (omega (arith, l .inv .2, l .inv .4, i .2)) (omega (arith, l .inv .5, i .4)) (w .ensures .1 ∙ ap (λ (ss : List ℕ). message b (softStage b (a .p) ss)) e) long (w .ensures .0 .0 ∙ ap (λ (ss : List ℕ). markByte (softStage b (a .p) ss .mark)) e) (w .ensures .0 .1 ∙ ap (λ (ss : List ℕ). softStage b (a .p) ss .tries) e)),
-      few-more (l .w) (w .result .mark) (w .result .tries) (l .totals) (c .counted .result) (l .inv .7) few (c .counted .ensures),
+      rw told (done-more b (a .p) xs (l .w) (l .messages) (l .marks) (totalsTold (l .totals)) (l .inv .6) (l .to) (w .result .mark) (w .result .tries) _ _ (l .inv .2) (omega (arith, l .inv .2, l .inv .4, i .2)) (omega (arith, l .inv .5, i .4)) (w .ensures .1 ∙ ap (λ (ss : List ℕ). message b (softStage b (a .p) ss)) e) long (w .ensures .0 .0 ∙ ap (λ (ss : List ℕ). markByte (softStage b (a .p) ss .mark)) e) (w .ensures .0 .1 ∙ ap (λ (ss : List ℕ). softStage b (a .p) ss .tries) e)),
+      rw told few,
     )
 
 same-length : tie.Need-same-length Inv-loop μ-loop

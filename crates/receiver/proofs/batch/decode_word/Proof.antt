@@ -13,7 +13,7 @@ use Rattle.take_format.specs.Batch.{message, markByte}
 use Rattle.take_format.proofs.Batches.{message-lost, message-found}
 use Rattle.receiver.specs.Answer.{softOf}
 use Rattle.receiver.specs.declared.Soft.{Soft}
-use Rattle.receiver.proofs.Marks.{word-beside}
+use Rattle.receiver.proofs.Marks.{tells, word-beside}
 use Rattle.receiver.proofs.batch.decode_word.Statement.{statement}
 use Rattle.receiver.proofs.batch.decode_word.Tie as tie
 
@@ -51,10 +51,12 @@ returns c =
     let a = s .args in
     let w = code (a .m) (a .t) (a .n) in
     let stage = softStage w (a .p) (a .s .now) in
-    let t = c .before .before .before .before .before .before .told-of .ensures _ stage (c .before .before .before .before .before .before .before .before .before .decode-with .ensures .0) in
-    let zero = message-lost w stage (sym (t .0) ∙ c .before .before .before .before .if1 .taken) in
+    let o = c .before .before .before .before .before .before .told-of .ensures in
+    let q = tells _ _ stage (c .before .before .before .before .before .before .before .before .before .decode-with .ensures .0) in
+    let mark = o .0 ∙ q .0 in
+    let zero = message-lost w stage (sym mark ∙ c .before .before .before .before .if1 .taken) in
     let k : length (a .message .now) ≡ a .n - a .m * a .t = omega (arith, s .pre .1 .1 .1 .1) in
-    (t, c .before .before .clear .ensures ∙ ap (λ (k : ℕ). replicate k 0) k ∙ sym zero)
+    ((mark, o .1 ∙ q .1), c .before .before .clear .ensures ∙ ap (λ (k : ℕ). replicate k 0) k ∙ sym zero)
 
 mul-copy : tie.Need-mul-copy
 mul-copy c = omega (arith, c .before .before .before .before .before .before .before .before .before .before .before .before .before .before .before .pre .1 .1 .1 .1)
@@ -87,9 +89,11 @@ returns-2 c =
     let w = code (a .m) (a .t) (a .n) in
     let stage = softStage w (a .p) (a .s .now) in
     let d = c .before .before .before .before .before .before .before .before .before .before .before .decode-with .ensures .0 in
-    let t = c .before .before .before .before .before .before .before .before .told-of .ensures _ stage d in
-    let n : markByte (stage .mark) ≢ 0 = λ z. c .before .before .before .before .before .before .if1 .left (t .0 ∙ z) in
-    (t, c .before .before .copy .ensures ∙ written w stage _ _ (omega (arith, s .pre .1 .1 .1 .0)) d n)
+    let o = c .before .before .before .before .before .before .before .before .told-of .ensures in
+    let q = tells _ _ stage d in
+    let mark = o .0 ∙ q .0 in
+    let n : markByte (stage .mark) ≢ 0 = λ z. c .before .before .before .before .before .before .if1 .left (mark ∙ z) in
+    ((mark, o .1 ∙ q .1), c .before .before .copy .ensures ∙ written w stage _ _ (omega (arith, s .pre .1 .1 .1 .0)) d n)
 
 pub decode-word-spec : {M : Type 1} → statement M
 decode-word-spec =

@@ -1,0 +1,6 @@
+pub mod Texts
+pub mod Decimals
+pub mod Signs
+pub mod Rows
+pub mod Answers
+pub mod Cases

@@ -1,0 +1,65 @@
+// The text of the program `takelist` (document 01), line by line, on buffers that the caller lends.
+//
+//     match listing::word_line(index, answer, &message, &mut text) {
+//         listing::Line::Written(length) => { .. }    // text[..length] is the line, with its line feed
+//         listing::Line::Refused(r) => { .. }         // 7: less room than any line may need; 8: a byte that is no bit
+//     }
+//
+// What has a `requires` is in the private modules `put` (fields) and `lines`.
+ghost use mathlib.Core.Path.{_≡_};
+ghost use Rattle.receiver.specs.Answer.{totalsTold};
+ghost use Rattle.listing.specs.Calls.{lineOf, wordLineAnswer, wordLineBuffer, totalsLineAnswer, totalsLineBuffer};
+use receiver::Soft;
+use receiver::Totals;
+use refusal::Check;
+use refusal::Refusal;
+
+mod lines;
+mod put;
+
+// What a call that writes a line answers: a refusal, or the line's length.
+pub enum Line {
+    Refused(Refusal),
+    Written(usize),
+}
+
+// Writes the line of word `index`, from the receiver's answer to it and its message. Any buffer with room for 81 bytes more than the
+// message has is large enough.
+pub fn word_line(index: usize, answer: Soft, message: &[u8], text: &mut [u8]) -> Line
+    ensures { λ r. ⌜ lineOf r ≡ wordLineAnswer index answer (now (message .entry)) (now (text .entry)) ⌝ }
+    ensures { λ _. ⌜ now (text .exit) ≡ wordLineBuffer index answer (now (message .entry)) (now (text .entry)) ⌝ }
+{
+    if text.len() < 81 {
+        return Line::Refused(Refusal {
+            number: 7,
+            place: 0,
+        });
+    }
+    if text.len() - 81 < message.len() {
+        return Line::Refused(Refusal {
+            number: 7,
+            place: 0,
+        });
+    }
+    match refusal::at_most(8, 1, message) {
+        Check::Refused(r) => {
+            return Line::Refused(r);
+        }
+        Check::Passed => {}
+    }
+    Line::Written(lines::word(text, 0, index, answer, message))
+}
+
+// Writes the line of the totals. Any buffer of 105 bytes is large enough.
+pub fn totals_line(totals: Totals, text: &mut [u8]) -> Line
+    ensures { λ r. ⌜ lineOf r ≡ totalsLineAnswer (totalsTold totals) (now (text .entry)) ⌝ }
+    ensures { λ _. ⌜ now (text .exit) ≡ totalsLineBuffer (totalsTold totals) (now (text .entry)) ⌝ }
+{
+    if text.len() < 105 {
+        return Line::Refused(Refusal {
+            number: 7,
+            place: 0,
+        });
+    }
+    Line::Written(lines::totals(text, 0, totals))
+}
