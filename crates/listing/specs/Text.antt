@@ -83,3 +83,8 @@ totalsLine k =
 unfoldable pub refusalLine : Refusal → List ℕ
 unfolding ascii line decimal
 refusalLine r = line (ascii "refused" ∷ decimal (r .number) ∷ decimal (r .place) ∷ [])
+
+-- of input that is longer than takelist reads
+unfoldable pub tooLong : List ℕ
+unfolding ascii line
+tooLong = line (ascii "too long" ∷ [])

@@ -7,7 +7,7 @@ ghost use Rattle.bch.specs.Words.{Bits};
 ghost use Rattle.chase.specs.Soft.{lostAnswer};
 ghost use Rattle.refusal.specs.Checked.{refusalOf};
 ghost use Rattle.receiver.specs.Answer.{totalsTold};
-ghost use Rattle.listing.specs.Text.{decimal, signed, bitsText, line, wordLine, totalsLine, refusalLine};
+ghost use Rattle.listing.specs.Text.{decimal, signed, bitsText, line, wordLine, totalsLine, refusalLine, tooLong};
 ghost use Rattle.listing.specs.Calls.{softLine};
 ghost use Rattle.listing.specs.Buffer.{Put, spaced};
 use crate::put;
@@ -19,10 +19,19 @@ use refusal::Refusal;
 pub fn refused(text: &mut [u8], at: usize, r: Refusal) -> usize
     requires { ⌜ at + 50 ≤ length (now text) ⌝ }
     ensures { λ e. ⌜ Put (now (text .entry)) at (refusalLine (refusalOf r)) (now (text .exit)) e ⌝ }
+    ensures { λ e. ⌜ e ≤ at + 50 ⌝ }
 {
     let a = put::characters(text, at, b"refused ");
     let b = put::number_and(text, a, r.number, b' ');
     put::number_and(text, b, r.place, b'\n')
+}
+
+// `too long`.
+pub fn too_long(text: &mut [u8], at: usize) -> usize
+    requires { ⌜ at + 9 ≤ length (now text) ⌝ }
+    ensures { λ e. ⌜ Put (now (text .entry)) at tooLong (now (text .exit)) e ⌝ }
+{
+    put::characters(text, at, b"too long\n")
 }
 
 // Words, sure, fair, lost, tries.
@@ -41,6 +50,7 @@ pub fn totals(text: &mut [u8], at: usize, k: Totals) -> usize
 fn lost(text: &mut [u8], at: usize, index: usize, tries: usize) -> usize
     requires { ⌜ at + 53 ≤ length (now text) ⌝ }
     ensures { λ e. ⌜ Put (now (text .entry)) at (wordLine index (lostAnswer tries) []) (now (text .exit)) e ⌝ }
+    ensures { λ e. ⌜ e ≤ at + 53 ⌝ }
 {
     let a = put::number_and(text, at, index, b' ');
     let b = put::characters(text, a, b"lost 0 0 ");
@@ -85,6 +95,7 @@ fn found(
     requires { ⌜ Bits (now message) × (length (now mark) ≡ 4) ⌝ }
     requires { ⌜ at + length (now message) + 81 ≤ length (now text) ⌝ }
     ensures { λ e. ⌜ Put (now (text .entry)) at (line (decimal index ∷ now (mark .entry) ∷ decimal distance ∷ signed margin ∷ decimal tries ∷ bitsText (now (message .entry)) ∷ [])) (now (text .exit)) e ⌝ }
+    ensures { λ e. ⌜ e ≤ at + length (now (message .entry)) + 81 ⌝ }
 {
     let a = index_mark(text, at, index, mark);
     let b = numbers(text, a, distance, margin, tries);
@@ -97,6 +108,7 @@ pub fn word(text: &mut [u8], at: usize, index: usize, answer: Soft, message: &[u
     requires { ⌜ Bits (now message) ⌝ }
     requires { ⌜ at + length (now message) + 81 ≤ length (now text) ⌝ }
     ensures { λ e. ⌜ Put (now (text .entry)) at (softLine index answer (now (message .entry))) (now (text .exit)) e ⌝ }
+    ensures { λ e. ⌜ e ≤ at + length (now (message .entry)) + 81 ⌝ }
 {
     match answer {
         Soft::Refused(r) => refused(text, at, r),

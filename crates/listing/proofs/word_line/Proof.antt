@@ -55,7 +55,7 @@ unfolding lineOf wordLineAnswer wordLineBuffer bitBytes checked
 returns-4 c =
     let a = c .before .before .before .before .before .before .before .before .before .before .before .args in
     let e = word-room (a .message .now) (a .text .now) (omega arith) ∙ sym (c .before .before .before .before .before .before .at-most .ensures) ∙ ap checked (c .before .before .before .before .enum-told .given .1) in
-    call-written _ e (c .before .before .word .ensures)
+    call-written _ e (c .before .before .word .ensures .0)
 
 pub word-line-spec : {M : Type 1} → statement M
 word-line-spec =

@@ -1,4 +1,5 @@
 -- A number, what is the same in each such line, and a number. Assumes nothing.
+use native.Mathlib.Omega.{arith}
 use borrow.Author.Needs.{needs}
 use Rattle.listing.specs.Text.{ascii}
 use Rattle.listing.proofs.Texts.{same-text, then}
@@ -29,9 +30,11 @@ same-length c = search needs
 
 returns : tie.Need-returns
 unfolding ascii
-returns c =
-    same-text (lost-text _ _)
-    (then (c .before .before .before .before .before .before .before .before .before .before .before .before .before .before .before .before .number-and .ensures .0) (then (c .before .before .before .before .before .before .before .before .before .before .before .characters .ensures) (then (c .before .before .before .before .before .before .before .number-and2 .ensures .0) (c .before .before .characters2 .ensures))))
+returns c = (
+  same-text (lost-text _ _)
+      (then (c .before .before .before .before .before .before .before .before .before .before .before .before .before .before .before .before .number-and .ensures .0) (then (c .before .before .before .before .before .before .before .before .before .before .before .characters .ensures) (then (c .before .before .before .before .before .before .before .number-and2 .ensures .0) (c .before .before .characters2 .ensures)))),
+  omega (arith, c .before .before .before .before .before .before .before .before .before .before .before .before .before .before .before .before .number-and .ensures .1, c .before .before .before .before .before .before .before .before .before .before .before .characters .ensures .ends, c .before .before .before .before .before .before .before .number-and2 .ensures .1, c .before .before .characters2 .ensures .ends),
+)
 
 pub lost-spec : {M : Type 1} → statement M
 lost-spec =

@@ -1,5 +1,6 @@
 -- Each case of the answer has its line. Assumes nothing.
 use mathlib.Core.Path.{refl, _∙_}
+use native.Mathlib.Omega.{arith}
 use borrow.Author.Needs.{needs}
 use mir.Syntax.{w32}
 use mir.Val.{SFits}
@@ -48,7 +49,7 @@ returns : tie.Need-returns
 unfolding answerLine softOf
 returns c =
     let a = c .before .before .before .before .before .before .before .before .before .args in
-    same-text (by-case (a .index) (a .message .now) (c .before .before .before .before .before .answer .given .1)) (c .before .before .refused .ensures)
+    (same-text (by-case (a .index) (a .message .now) (c .before .before .before .before .before .answer .given .1)) (c .before .before .refused .ensures .0), omega (arith, c .before .before .refused .ensures .1))
 
 same-length-2 : tie.Need-same-length-2
 same-length-2 c = search needs
@@ -57,7 +58,7 @@ returns-2 : tie.Need-returns-2
 unfolding answerLine softOf
 returns-2 c =
     let a = c .before .before .before .before .before .before .before .before .before .args in
-    same-text (lost-any (a .index) (c .before .before .before .before .before .answer2 .given .0 .0) (a .message .now) ∙ by-case (a .index) (a .message .now) (c .before .before .before .before .before .answer2 .given .1)) (c .before .before .lost .ensures)
+    (same-text (lost-any (a .index) (c .before .before .before .before .before .answer2 .given .0 .0) (a .message .now) ∙ by-case (a .index) (a .message .now) (c .before .before .before .before .before .answer2 .given .1)) (c .before .before .lost .ensures .0), omega (arith, c .before .before .lost .ensures .1))
 
 same-length-3 : tie.Need-same-length-3
 same-length-3 c = search needs
@@ -68,7 +69,7 @@ returns-3 c =
     let a = c .before .before .before .before .before .before .before .before .before .before .args in
     let g = c .before .before .before .before .before .before .answer3 .given in
     let f : SFits w32 (g .0 .1 .0) = record { sfits = c .before .before .before .before .before .known-told3 .given .1 .0 .1 } in
-    same-text (found-line (a .index) (a .message .now) (g .1) refl f) (c .before .before .found .ensures)
+    (same-text (found-line (a .index) (a .message .now) (g .1) refl f) (c .before .before .found .ensures .0), c .before .before .found .ensures .1)
 
 same-length-4 : tie.Need-same-length-4
 same-length-4 c = search needs
@@ -79,7 +80,7 @@ returns-4 c =
     let a = c .before .before .before .before .before .before .before .before .before .before .args in
     let g = c .before .before .before .before .before .before .answer4 .given in
     let f : SFits w32 (g .0 .1 .0) = record { sfits = c .before .before .before .before .before .known-told4 .given .1 .0 .1 } in
-    same-text (found-line (a .index) (a .message .now) (g .1) refl f) (c .before .before .found2 .ensures)
+    (same-text (found-line (a .index) (a .message .now) (g .1) refl f) (c .before .before .found2 .ensures .0), c .before .before .found2 .ensures .1)
 
 pub word-spec : {M : Type 1} → statement M
 word-spec =

@@ -1,5 +1,5 @@
 -- The message is that of the answer's codeword, or 0. Assumes nothing.
-use Prim.Native.Nat.{ℕ, _+_, _-_, _*_}
+use Prim.Native.Nat.{ℕ, _-_, _*_}
 use native.Mathlib.Omega.{arith}
 use mathlib.Core.Path.{_≡_, ap, sym, _∙_}
 use mathlib.Core.Logic.{_≢_, inr}
@@ -17,11 +17,7 @@ use Rattle.receiver.proofs.Marks.{tells, word-beside}
 use Rattle.receiver.proofs.batch.decode_word.Statement.{statement}
 use Rattle.receiver.proofs.batch.decode_word.Tie as tie
 
--- what stands behind the parity bits
-behind-long : (r n k : ℕ) (w : List ℕ) → n ≡ r + k → length w ≡ n → k ≡ length (take (n - r) (drop r w))
-behind-long r n k w e l = omega (arith, length-take (n - r) (drop r w), length-drop r w)
-
--- it is the message of what is answered beside it
+-- what stands behind the parity bits is the message of what is answered beside it
 written : (c : Code) (stage : Answer) (a : Soft) (w : List ℕ) → length w ≡ c .n → softOf a w ≡ inr stage
     → markByte (stage .mark) ≢ 0 → take (c .n - parityLength c) (drop (parityLength c) w) ≡ message c stage
 written c stage a w l h n =
@@ -73,8 +69,7 @@ part-copy-end c = omega (arith, c .before .before .before .before .before .befor
 copy-requires : tie.Need-copy-requires
 copy-requires c κs =
     let s = c .before .before .before .before .before .before .before .before .before .before .before .before .before .before .before .before .before .before in
-    let a = s .args in
-    behind-long (a .m * a .t) (a .n) _ _ (s .pre .1 .1 .1 .1) (omega (arith, s .pre .1 .1 .1 .0))
+    simp (length-take, length-drop) (omega (arith, s .pre .1 .1 .1 .0, s .pre .1 .1 .1 .1))
 
 same-length-3 : tie.Need-same-length-3
 same-length-3 c = search needs
