@@ -4,3 +4,4 @@ pub mod Signs
 pub mod Rows
 pub mod Answers
 pub mod Cases
+pub mod Listings

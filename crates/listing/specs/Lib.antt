@@ -1,3 +1,5 @@
 pub mod Text
 pub mod Calls
 pub mod Buffer
+pub mod Takelist
+pub mod Progress

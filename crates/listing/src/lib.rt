@@ -1,20 +1,26 @@
-// The text of the program `takelist` (document 01), line by line, on buffers that the caller lends.
+// The text of the program `takelist` (document 01), on buffers that the caller lends: its whole output for an input, or line by line.
+//
+//     let length = listing::list(&input, &mut text);  // text[..length] is the output
 //
 //     match listing::word_line(index, answer, &message, &mut text) {
 //         listing::Line::Written(length) => { .. }    // text[..length] is the line, with its line feed
 //         listing::Line::Refused(r) => { .. }         // 7: less room than any line may need; 8: a byte that is no bit
 //     }
 //
-// What has a `requires` is in the private modules `put` (fields) and `lines`.
+// What has a `requires` is in the private modules `put` (fields), `lines` and `output` (the lines of a take).
 ghost use mathlib.Core.Path.{_≡_};
 ghost use Rattle.receiver.specs.Answer.{totalsTold};
-ghost use Rattle.listing.specs.Calls.{lineOf, wordLineAnswer, wordLineBuffer, totalsLineAnswer, totalsLineBuffer};
+ghost use Rattle.listing.specs.Calls.{lineOf, wordLineAnswer, wordLineBuffer, totalsLineAnswer, totalsLineBuffer, over};
+ghost use Rattle.listing.specs.Takelist.{takelist};
+ghost use lib.ListN.{length};
 use receiver::Soft;
 use receiver::Totals;
 use refusal::Check;
 use refusal::Refusal;
+use takes::Opening;
 
 mod lines;
+mod output;
 mod put;
 
 // What a call that writes a line answers: a refusal, or the line's length.
@@ -62,4 +68,18 @@ pub fn totals_line(totals: Totals, text: &mut [u8]) -> Line
         });
     }
     Line::Written(lines::totals(text, 0, totals))
+}
+
+// Writes the program's whole output for its input, and answers its length. The buffer has room for every output.
+pub fn list(input: &[u8], text: &mut [u8; 900000]) -> usize
+    ensures { λ r. ⌜ r ≡ length (takelist (now (input .entry))) ⌝ }
+    ensures { λ _. ⌜ now (text .exit) ≡ over (takelist (now (input .entry))) (now (text .entry)) ⌝ }
+{
+    if 65536 < input.len() {
+        return lines::too_long(text, 0);
+    }
+    match takes::open_take(input) {
+        Opening::Refused(r) => lines::refused(text, 0, r),
+        Opening::Opened(h) => output::list_take(input, h, text),
+    }
 }

@@ -1,0 +1,65 @@
+-- The output for input that is too long, refused or opened. Assumes nothing.
+use native.Mathlib.Omega.{arith}
+use mathlib.Core.Path.{ap, sym, _∙_}
+use borrow.Author.Needs.{needs}
+use Rattle.take_format.specs.Take.{header, openRefusal, openAnswer}
+use Rattle.take_format.proofs.Accepted.{opened-take}
+use Rattle.takes.specs.Answer.{openingOf}
+use Rattle.takes.proofs.TakeLaws.{answered-inr}
+use Rattle.listing.specs.Takelist.{openText}
+use Rattle.listing.proofs.Listings.{long-input, opened-input, front}
+use Rattle.listing.proofs.list.Statement.{statement}
+use Rattle.listing.proofs.list.Tie as tie
+
+too-long-requires : tie.Need-too-long-requires
+too-long-requires c κs = search needs
+
+returns : tie.Need-returns
+returns c =
+    let a = c .before .before .before .before .args in
+    front (c .too-long .ensures) (long-input (a .input .now) (c .before .before .if1 .taken))
+
+open-take-requires : tie.Need-open-take-requires
+open-take-requires c κs = search needs
+
+enum-known-r : tie.Need-enum-known-r
+enum-known-r c = search needs
+
+refused-requires : tie.Need-refused-requires
+refused-requires c κs = search needs
+
+enum-known-h : tie.Need-enum-known-h
+enum-known-h c = search needs
+
+list-take-requires : tie.Need-list-take-requires
+unfolding openingOf openAnswer
+list-take-requires c κs =
+    let bs = c .before .before .before .before .before .before .before .args .input .now in
+    let (n, q) = answered-inr (openRefusal bs) (header bs) _ (sym (ap openingOf (c .before .before .h .given .1)) ∙ c .before .before .before .before .open-take .ensures) in
+    (record { read = q; opened = opened-take bs (sym n); short = c .before .before .before .before .before .if1 .left }, search needs)
+
+returns-2 : tie.Need-returns-2
+unfolding openingOf openText
+returns-2 c =
+    let bs = c .before .before .before .before .before .before .before .before .args .input .now in
+    front (c .refused .ensures .0) (opened-input bs (c .before .before .before .before .before .before .if1 .left) _ (sym (ap openingOf (c .before .before .before .r .given .1)) ∙ c .before .before .before .before .before .open-take .ensures))
+
+returns-3 : tie.Need-returns-3
+unfolding openingOf openText
+returns-3 c =
+    let bs = c .before .before .before .before .before .before .before .before .args .input .now in
+    front (c .list-take .ensures) (opened-input bs (c .before .before .before .before .before .before .if1 .left) _ (sym (ap openingOf (c .before .before .before .h .given .1)) ∙ c .before .before .before .before .before .open-take .ensures))
+
+pub list-spec : {M : Type 1} → statement M
+list-spec =
+    tie.close
+    (tie.spec
+    too-long-requires
+    returns
+    open-take-requires
+    enum-known-r
+    refused-requires
+    enum-known-h
+    list-take-requires
+    returns-2
+    returns-3)
