@@ -8,6 +8,7 @@
 //     }
 //
 // What has a `requires` is in the private modules `put` (fields), `lines` and `output` (the lines of a take).
+ghost use Prim.Native.Nat.{_≤_};
 ghost use mathlib.Core.Path.{_≡_};
 ghost use Rattle.receiver.specs.Answer.{totalsTold};
 ghost use Rattle.listing.specs.Calls.{lineOf, wordLineAnswer, wordLineBuffer, totalsLineAnswer, totalsLineBuffer, over};
@@ -74,6 +75,7 @@ pub fn totals_line(totals: Totals, text: &mut [u8]) -> Line
 pub fn list(input: &[u8], text: &mut [u8; 900000]) -> usize
     ensures { λ r. ⌜ r ≡ length (takelist (now (input .entry))) ⌝ }
     ensures { λ _. ⌜ now (text .exit) ≡ over (takelist (now (input .entry))) (now (text .entry)) ⌝ }
+    ensures { λ r. ⌜ r ≤ length (now (text .exit)) ⌝ }
 {
     if 65536 < input.len() {
         return lines::too_long(text, 0);
