@@ -1,10 +1,10 @@
 -- What is told of a word's answer, by its case. Assumes nothing.
 use Prim.Native.Nat.{ℕ}
 use native.Mathlib.Omega.{arith}
-use mathlib.Core.Path.{_≡_, refl, ap, sym, _∙_}
+use mathlib.Core.Path.{_≡_, ap, sym}
 use mathlib.Core.Logic.{_⊎_, _≢_, inl, inr}
 use mathlib.Core.List.{List}
-use Rattle.chase.specs.Soft.{Answer, lostAnswer, fair, sure}
+use Rattle.chase.specs.Soft.{Answer, lostAnswer}
 use Rattle.take_format.specs.Batch.{markByte}
 use Rattle.take_format.specs.Refusal.{Refusal}
 use Rattle.receiver.specs.Answer.{softOf, markOf, triesOf}

@@ -1,5 +1,6 @@
 -- Laws of the calls on one word: what they answer and leave in the buffer, by what their checks say. Assumes nothing.
 use Prim.Native.Nat.{ℕ}
+use native.Mathlib.Omega.{arith}
 use mathlib.Core.Path.{_≡_, refl, ap, ap₂, sym, _∙_}
 use mathlib.Core.Logic.{inl, inr}
 use mathlib.Core.List.{List, [], _∷_, _++_}
@@ -47,3 +48,15 @@ answered-none o a e = rw e refl
 pub buffer-none : (o : Option Refusal) (old new : List ℕ) → o ≡ none → new ≡ unlessRefused o old new
 unfolding unlessRefused
 buffer-none o old new e = rw e refl
+
+-- ---- what an answer tells of the checks
+
+pub answered-inl : {A : Type 0} (o : Option Refusal) (a : A) (r : Refusal) → inl r ≡ answered o a → some r ≡ o
+unfolding answered
+answered-inl none a r e = let z : _≡_ {A = ℕ} 0 1 = cc in absurd (omega arith)
+answered-inl (some s) a r e = cc
+
+pub answered-inr : {A : Type 0} (o : Option Refusal) (a b : A) → inr b ≡ answered o a → (none ≡ o) × (b ≡ a)
+unfolding answered
+answered-inr none a b e = (refl, cc)
+answered-inr (some s) a b e = let z : _≡_ {A = ℕ} 0 1 = cc in absurd (omega arith)

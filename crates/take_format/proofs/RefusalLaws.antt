@@ -35,6 +35,15 @@ first-append [] ps e = (refl, e)
 first-append (none ∷ os) ps e = first-append os ps e
 first-append (some r ∷ os) ps e = some-not-none r e
 
+-- the first of a list of checks that begins with this one
+pub first-some : (o : Option Refusal) (os : List (Option Refusal)) (r : Refusal) → some r ≡ o → some r ≡ firstOf (o ∷ os)
+unfolding firstOf
+first-some o os r e = rw (← e) refl
+
+pub first-none : (o : Option Refusal) (os : List (Option Refusal)) → none ≡ o → firstOf os ≡ firstOf (o ∷ os)
+unfolding firstOf
+first-none o os e = rw (← e) refl
+
 -- the last check decides where no other refuses
 pub first-last : (o : Option Refusal) → firstOf (o ∷ []) ≡ o
 unfolding firstOf

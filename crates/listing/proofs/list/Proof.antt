@@ -1,11 +1,10 @@
 -- The output for input that is too long, refused or opened. Assumes nothing.
-use native.Mathlib.Omega.{arith}
 use mathlib.Core.Path.{ap, sym, _∙_}
 use borrow.Author.Needs.{needs}
 use Rattle.take_format.specs.Take.{header, openRefusal, openAnswer}
 use Rattle.take_format.proofs.Accepted.{opened-take}
 use Rattle.takes.specs.Answer.{openingOf}
-use Rattle.takes.proofs.TakeLaws.{answered-inr}
+use Rattle.take_format.proofs.CallLaws.{answered-inr}
 use Rattle.listing.specs.Takelist.{openText}
 use Rattle.listing.proofs.Listings.{long-input, opened-input, front}
 use Rattle.listing.proofs.list.Statement.{statement}

@@ -2,7 +2,7 @@
 use Prim.Native.Nat.{ℕ, _≤_}
 use native.Mathlib.Omega.{arith}
 use mathlib.Core.Path.{_≡_, ap, sym, _∙_}
-use mathlib.Core.List.{List, _++_}
+use mathlib.Core.List.{_++_}
 use borrow.Author.Needs.{needs}
 use lib.ListN.{length, take, drop, replicate, length-take}
 use Rattle.bch.proofs.Entries.{below-take, below-zeros}

@@ -1,12 +1,11 @@
 -- The line is that of the word's answer, and its mark and tries are counted. Assumes nothing.
-use Prim.Native.Nat.{ℕ, _+_, _-_, _*_, _≤_}
+use Prim.Native.Nat.{ℕ, _+_, _-_}
 use native.Mathlib.Omega.{arith}
 use mathlib.Core.Path.{_≡_, ap, ap₂, sym, subst, _∙_}
 use borrow.Author.Needs.{needs}
 use lib.ListN.{length, take, drop, length-take, length-drop}
 use lib.Seq.{take-all}
 use Rattle.bch.specs.Words.{Bits}
-use Rattle.bch.specs.Code.{parityLength, wordLength, messageLength}
 use Rattle.bch.proofs.Entries.{below-take, below-drop}
 use Rattle.take_format.specs.Batch.{markByte, countedOf, capped}
 use Rattle.take_format.proofs.Batches.{Few, few-more, few-capped}
