@@ -12,7 +12,6 @@ ghost use Rattle.listing.specs.Progress.{Listable, Lent, Step, Listed};
 use crate::lines;
 use receiver::Totals;
 use receiver::counted;
-use receiver::told_of;
 use takes::Header;
 use takes::decode_word;
 
@@ -62,7 +61,7 @@ fn list_word(
     let next = lines::word(text, k.at, w, answer, &codeword[start..end]);
     Progress {
         at: next,
-        totals: counted(k.totals, told_of(answer)),
+        totals: counted(k.totals, answer),
     }
 }
 

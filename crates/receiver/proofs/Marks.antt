@@ -3,9 +3,9 @@ use Prim.Native.Nat.{ℕ}
 use native.Mathlib.Omega.{arith}
 use mathlib.Core.Path.{_≡_, ap, sym}
 use mathlib.Core.Logic.{_⊎_, _≢_, inl, inr}
-use mathlib.Core.List.{List}
+use mathlib.Core.List.{List, []}
 use Rattle.chase.specs.Soft.{Answer, lostAnswer}
-use Rattle.take_format.specs.Batch.{markByte}
+use Rattle.take_format.specs.Batch.{markByte, Totals, countedOf, capped, countedAnswer}
 use Rattle.take_format.specs.Refusal.{Refusal}
 use Rattle.receiver.specs.Answer.{softOf, markOf, triesOf}
 use Rattle.receiver.specs.declared.Soft.{Soft}
@@ -27,6 +27,15 @@ tells (Refused r) word answer h = not-refused _ answer h
 tells (Lost tries) word answer h = both (same (lostAnswer tries) answer h)
 tells (Fair L margin q j tries) word answer h = both (same _ answer h)
 tells (Sure L margin q j tries) word answer h = both (same _ answer h)
+
+-- it is counted so, whatever word stands beside it
+pub counts : (k : Totals) (a : Soft) (word : List ℕ) (answer : Answer) → softOf a word ≡ inr answer
+    → countedAnswer k (softOf a []) ≡ capped (countedOf k (markByte (answer .mark)) (answer .tries))
+unfolding softOf lostAnswer countedAnswer
+counts k (Refused r) word answer h = not-refused _ answer h
+counts k (Lost tries) word answer h = ap (λ (x : Answer). capped (countedOf k (markByte (x .mark)) (x .tries))) (same (lostAnswer tries) answer h)
+counts k (Fair L margin q j tries) word answer h = ap (λ (x : Answer). capped (countedOf k (markByte (x .mark)) (x .tries))) (same _ answer h)
+counts k (Sure L margin q j tries) word answer h = ap (λ (x : Answer). capped (countedOf k (markByte (x .mark)) (x .tries))) (same _ answer h)
 
 -- the word of an answer that is not lost is the one beside it
 pub word-beside : (a : Soft) (word : List ℕ) (answer : Answer) → softOf a word ≡ inr answer → markByte (answer .mark) ≢ 0 → answer .word ≡ word

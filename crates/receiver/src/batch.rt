@@ -12,15 +12,14 @@ ghost use Rattle.take_format.specs.Batch.{message as Batch·message, markByte, 
 ghost use Rattle.take_format.specs.Refusal.{wordsCheck};
 ghost use Rattle.take_format.proofs.RefusalLaws.{WordsAccepted};
 ghost use Rattle.refusal.specs.Checked.{checked};
-ghost use Rattle.receiver.specs.Answer.{totalsTold};
-use crate::Told;
+ghost use Rattle.receiver.specs.Answer.{markOf, triesOf, totalsTold};
+use crate::Soft;
 use crate::Totals;
-use crate::counted;
+use crate::add;
 use crate::decision;
 use crate::field;
 use crate::repair;
 use crate::roots;
-use crate::told_of;
 use refusal::Check;
 use refusal::refuse;
 
@@ -61,6 +60,33 @@ fn clear(message: &mut [u8])
     while i < message.len() {
         message[i] = 0;
         i += 1;
+    }
+}
+
+// What is kept of a word's answer: its mark's byte, 0 lost, 1 fair, 2 sure, and the tries made.
+pub struct Told {
+    pub mark: u8,
+    pub tries: usize,
+}
+
+// The mark's byte and the tries of an answer.
+fn told_of(answer: Soft) -> Told
+    ensures { λ r. ⌜ (r .mark ≡ markOf answer) × (r .tries ≡ triesOf answer) ⌝ }
+{
+    match answer {
+        Soft::Refused(_) => Told { mark: 0, tries: 0 },
+        Soft::Lost { tries } => Told {
+            mark: 0,
+            tries: tries,
+        },
+        Soft::Fair { tries, .. } => Told {
+            mark: 1,
+            tries: tries,
+        },
+        Soft::Sure { tries, .. } => Told {
+            mark: 2,
+            tries: tries,
+        },
     }
 }
 
@@ -164,7 +190,7 @@ fn decode_all(
             &mut messages[to..to + k],
         );
         marks[w] = told.mark;
-        totals = counted(totals, told);
+        totals = add(totals, told.mark, told.tries);
         at += n;
         to += k;
         w += 1;

@@ -13,19 +13,25 @@
 //         receiver::Soft::Refused(r) => { .. }
 //     }
 //
+//     match receiver::decode_words(6, 2, 63, 4, 20, &symbols, &mut messages, &mut marks) {
+//         receiver::Words::Decoded(totals) => { .. }     // 20 words: their messages and marks are in the buffers
+//         receiver::Words::Refused(r) => { .. }
+//     }
+//
 // A call checks what it is given (`refusal`) and fills the tables of the field (`field`) and of the solutions that t needs (`roots`). The
 // hard stage adds up the syndromes S1, S3, S5 (`syndrome`), finds the positions to flip (`locate`) and only then writes (`repair`). The
 // soft stage ranks the symbols (`ranking`), has the syndromes and the weight of each test word without writing it out (`tests`),
-// locates and weighs one test word after the other (`search`, `weighing`) and only then writes (`decision`). What has a `requires` is in
-// private modules.
+// locates and weighs one test word after the other (`search`, `weighing`) and only then writes (`decision`). Several words share their
+// tables (`batch`). What has a `requires` is in private modules.
 ghost use Prim.Native.Nat.{_+_, _-_, _^_, min};
 ghost use mathlib.Core.Path.{_≡_};
 ghost use mathlib.Core.Bool.{cond};
+ghost use mathlib.Core.List.{[]};
 ghost use lib.Dec.{eqb};
 ghost use Rattle.bch.specs.Code.{code};
 ghost use Rattle.take_format.specs.Calls.{hardAnswer, hardBuffer, softAnswer, softBuffer, wordsAnswer, messagesBuffer, marksBuffer};
-ghost use Rattle.take_format.specs.Batch.{countedOf, capped};
-ghost use Rattle.receiver.specs.Answer.{hardOf, softOf, markOf, triesOf, totalsTold, wordsOf};
+ghost use Rattle.take_format.specs.Batch.{countedOf, capped, countedAnswer};
+ghost use Rattle.receiver.specs.Answer.{hardOf, softOf, totalsTold, wordsOf};
 use refusal::Check;
 use refusal::Refusal;
 
@@ -129,33 +135,6 @@ pub struct Totals {
     pub tries: usize,
 }
 
-// What the totals need of a word's answer: its mark's byte, 0 lost, 1 fair, 2 sure, and the tries made.
-pub struct Told {
-    pub mark: u8,
-    pub tries: usize,
-}
-
-// The mark's byte and the tries of an answer. A refusal, which no total counts, has 0 and 0.
-pub fn told_of(answer: Soft) -> Told
-    ensures { λ r. ⌜ (r .mark ≡ markOf answer) × (r .tries ≡ triesOf answer) ⌝ }
-{
-    match answer {
-        Soft::Refused(_) => Told { mark: 0, tries: 0 },
-        Soft::Lost { tries } => Told {
-            mark: 0,
-            tries: tries,
-        },
-        Soft::Fair { tries, .. } => Told {
-            mark: 1,
-            tries: tries,
-        },
-        Soft::Sure { tries, .. } => Told {
-            mark: 2,
-            tries: tries,
-        },
-    }
-}
-
 // 1 where a mark is this one, otherwise 0.
 fn one_if(mark: u8, this: u8) -> usize
     ensures { λ r. ⌜ r ≡ cond (eqb this mark) 1 0 ⌝ }
@@ -174,16 +153,29 @@ fn plus(a: usize, b: usize) -> usize
     a + b
 }
 
-// The totals with one more word.
-pub fn counted(totals: Totals, told: Told) -> Totals
-    ensures { λ r. ⌜ totalsTold r ≡ capped (countedOf (totalsTold totals) (told .mark) (told .tries)) ⌝ }
+// The totals with one more word, of that mark's byte and tries.
+fn add(totals: Totals, mark: u8, tries: usize) -> Totals
+    ensures { λ r. ⌜ totalsTold r ≡ capped (countedOf (totalsTold totals) mark tries) ⌝ }
 {
     Totals {
         words: plus(totals.words, 1),
-        sure: plus(totals.sure, one_if(told.mark, 2)),
-        fair: plus(totals.fair, one_if(told.mark, 1)),
-        lost: plus(totals.lost, one_if(told.mark, 0)),
-        tries: plus(totals.tries, told.tries),
+        sure: plus(totals.sure, one_if(mark, 2)),
+        fair: plus(totals.fair, one_if(mark, 1)),
+        lost: plus(totals.lost, one_if(mark, 0)),
+        tries: plus(totals.tries, tries),
+    }
+}
+
+// The totals with one more answer, for whoever decodes word by word. A refusal leaves them as they are, and no total goes beyond the
+// largest number.
+pub fn counted(totals: Totals, answer: Soft) -> Totals
+    ensures { λ r. ⌜ totalsTold r ≡ countedAnswer (totalsTold totals) (softOf answer []) ⌝ }
+{
+    match answer {
+        Soft::Refused(_) => totals,
+        Soft::Lost { tries } => add(totals, 0, tries),
+        Soft::Fair { tries, .. } => add(totals, 1, tries),
+        Soft::Sure { tries, .. } => add(totals, 2, tries),
     }
 }
 

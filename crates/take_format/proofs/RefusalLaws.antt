@@ -230,3 +230,52 @@ words-accepted c p W symbols messages marks e =
       marks-room = output-none W (length marks) hk;
       are-symbols = symbols-none 0 symbols hb;
     }
+
+-- ---- the place of a refusal
+
+-- where it is refused at all, then at a place that is not beyond
+abbrev pub Within : ℕ → Option Refusal → Type 0
+Within most o = (r : Refusal) → o ≡ some r → r .place ≤ most
+
+-- so does the first of checks that do
+AllWithin : ℕ → List (Option Refusal) → Type 0
+AllWithin most [] = Unit {0}
+AllWithin most (o ∷ os) = Within most o × AllWithin most os
+
+first-within : (most : ℕ) (os : List (Option Refusal)) → AllWithin most os → Within most (firstOf os)
+unfolding AllWithin firstOf
+first-within most [] a r e = some-not-none r (sym e)
+first-within most (none ∷ os) a r e = first-within most os (a .1) r e
+first-within most (some s ∷ os) a r e = a .0 r e
+
+both-within : (most : ℕ) (os ps : List (Option Refusal)) → AllWithin most os → AllWithin most ps → AllWithin most (os ++ ps)
+unfolding AllWithin
+both-within most [] ps a b = b
+both-within most (o ∷ os) ps a b = (a .0, both-within most os ps (a .1) b)
+
+within-unless : (most k : ℕ) (b : Bool) → Within most (unless k b)
+unfolding unless
+within-unless most k true r e = some-not-none r (sym e)
+within-unless most k false r e = let z : r .place ≡ 0 = cc in omega arith
+
+within-bytes : (k most at : ℕ) (xs : List ℕ) → Within (at + length xs) (unlessAtMost k most at xs)
+unfolding unlessAtMost
+within-bytes k most at [] r e = some-not-none r (sym e)
+within-bytes k most at (x ∷ xs) r e = go (leb x most) e (within-bytes k most (suc at) xs)
+  where
+    go : (b : Bool) → elim b [ true ↦ unlessAtMost k most (suc at) xs | false ↦ refused k at ] ≡ some r
+        → Within (suc at + length xs) (unlessAtMost k most (suc at) xs) → r .place ≤ at + length (x ∷ xs)
+    go true e f = omega (arith, f r e)
+    go false e f = let z : r .place ≡ at = cc in omega arith
+
+-- the soft stage's, not beyond its symbols
+pub soft-within : (c : Code) (p : ℕ) (symbols codeword : List ℕ) → Within (length symbols) (softRefusal c p symbols codeword)
+unfolding softRefusal symbolsCheck settings depthCheck inputLength outputLength symbolBytes AllWithin
+soft-within c p symbols codeword =
+    let most = length symbols in
+    let n = wordLength c in
+    let bytes : Within most (unlessAtMost 9 31 0 symbols) = λ r e. omega (arith, within-bytes 9 31 0 symbols r e) in
+    let word = depthCheck p ∷ inputLength n (length symbols) ∷ outputLength n (length codeword) ∷ symbolBytes 0 symbols ∷ [] in
+    let named : AllWithin most (settings c) = (within-unless most 1 (leb 5 (c .m) && leb (c .m) 8), (within-unless most 2 (leb 1 (c .t) && leb (c .t) 3), (within-unless most 3 (leb (parityLength c + 1) (c .n) && leb (c .n) (2 ^ c .m - 1)), tt))) in
+    let later : AllWithin most word = (within-unless most 4 (leb p 6), (within-unless most 6 (eqb (length symbols) n), (within-unless most 7 (eqb (length codeword) n), (bytes, tt)))) in
+    first-within most (settings c ++ firstOf word ∷ []) (both-within most (settings c) (firstOf word ∷ []) named (first-within most word later, tt))

@@ -143,8 +143,8 @@ slice-write-marks c =
     let l = c .before .before .before .before .before .before .before .before .before .loop in
     omega (arith, l .inv .5, inside (c .before .before .before .before .before .before .before .before .before .before .before .before .before .before .before .before .before .before .before) (l .w) (c .before .before .before .before .before .before .before .before .loop-test .taken) .4)
 
-counted-requires : tie.Need-counted-requires Inv-loop μ-loop
-counted-requires c κs = search needs
+add-requires : tie.Need-add-requires Inv-loop μ-loop
+add-requires c κs = search needs
 
 add-at : tie.Need-add-at Inv-loop μ-loop
 add-at c =
@@ -185,7 +185,7 @@ loop-again c =
     let tried = tries-most b (s .pre .1 .1 .0 .0) (omega (arith, ok .isCode .n-least)) (a .p) ss (word-long s (l .w) (l .at) h (l .inv .1)) (word-symbols s (l .at) (l .at + a .n - l .at)) in
     let most : 2 ^ a .p ≤ 64 = pow-mono (ok .depth) in
     let few = few-more (l .w) (totalsTold (l .totals)) (l .inv .7) (w .result .mark) (w .result .tries) (omega (arith, w .ensures .0 .1, tried, most)) in
-    let told = c .counted .ensures ∙ few-capped (l .w + 1) (countedOf (totalsTold (l .totals)) (w .result .mark) (w .result .tries)) few (omega (arith, h, s .pre .1 .1 .1 .0)) in
+    let told = c .add .ensures ∙ few-capped (l .w + 1) (countedOf (totalsTold (l .totals)) (w .result .mark) (w .result .tries)) few (omega (arith, h, s .pre .1 .1 .1 .0)) in
     let long = ap length (w .ensures .1) ∙ message-long b (s .pre .1 .1 .0 .0) (omega (arith, s .pre .1 .1 .1 .1 .isCode .n-least)) (a .p) ss (word-long s (l .w) (l .at) h (l .inv .1)) (word-symbols s (l .at) (l .at + a .n - l .at)) in (
       omega (arith, h),
       more (l .w) (a .n) (l .at) (l .inv .1),
@@ -236,7 +236,7 @@ decode-all-spec =
     part-decode-word-end-2
     decode-word-requires
     slice-write-marks
-    counted-requires
+    add-requires
     add-at
     add-to
     add-w

@@ -2,8 +2,8 @@
 use mathlib.Core.Path.{ap, sym}
 use borrow.Author.Needs.{needs}
 use Rattle.receiver.specs.Answer.{markOf, triesOf}
-use Rattle.receiver.proofs.told_of.Statement.{statement}
-use Rattle.receiver.proofs.told_of.Tie as tie
+use Rattle.receiver.proofs.batch.told_of.Statement.{statement}
+use Rattle.receiver.proofs.batch.told_of.Tie as tie
 
 enum-told : tie.Need-enum-told
 enum-told c = search needs
