@@ -21,13 +21,14 @@ unfoldable pub lineOf : Line → Refusal ⊎ ℕ
 lineOf (Refused r) = inl (refusalOf r)
 lineOf (Written n) = inr n
 
--- the line of a word's answer, where it is one and no refusal
+-- the line of a word's answer, or of a refusal
 unfoldable pub answerLine : ℕ → Refusal ⊎ Answer → List ℕ → List ℕ
 unfolding wordLine refusalLine
 answerLine i (inl r) bits = refusalLine r
 answerLine i (inr a) bits = wordLine i a bits
 
--- the line of what the receiver answered for word i, with its message beside it
+-- the line of what the receiver answered for word i, with its message beside it (which codeword stands beside the answer is of no matter
+-- for the line)
 abbrev pub softLine : ℕ → Soft → List ℕ → List ℕ
 softLine i a bits = answerLine i (softOf a bits) bits
 

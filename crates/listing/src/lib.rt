@@ -4,7 +4,7 @@
 //
 //     match listing::word_line(index, answer, &message, &mut text) {
 //         listing::Line::Written(length) => { .. }    // text[..length] is the line, with its line feed
-//         listing::Line::Refused(r) => { .. }         // 7: less room than any line may need; 8: a byte that is no bit
+//         listing::Line::Refused(r) => { .. }         // 7: fewer than 81 bytes more than the message has; 8: a byte of it that is no bit
 //     }
 //
 // What has a `requires` is in the private modules `put` (fields), `lines` and `output` (the lines of a take).
@@ -30,8 +30,9 @@ pub enum Line {
     Written(usize),
 }
 
-// Writes the line of word `index`, from the receiver's answer to it and its message. Any buffer with room for 81 bytes more than the
-// message has is large enough.
+// Writes the line of word `index`, from the receiver's answer to it and its message, which is codeword positions m·t to n - 1. A buffer of
+// 81 bytes more than the message has is large enough for every line, and a smaller one is refused with 7. The message is checked for
+// a lost word too. The line of an answer that is a refusal is `refused`, number, place.
 pub fn word_line(index: usize, answer: Soft, message: &[u8], text: &mut [u8]) -> Line
     ensures { λ r. ⌜ lineOf r ≡ wordLineAnswer index answer (now (message .entry)) (now (text .entry)) ⌝ }
     ensures { λ _. ⌜ now (text .exit) ≡ wordLineBuffer index answer (now (message .entry)) (now (text .entry)) ⌝ }
@@ -57,7 +58,7 @@ pub fn word_line(index: usize, answer: Soft, message: &[u8], text: &mut [u8]) ->
     Line::Written(lines::word(text, 0, index, answer, message))
 }
 
-// Writes the line of the totals. Any buffer of 105 bytes is large enough.
+// Writes the line of the totals. A buffer of 105 bytes or more is large enough for every line, and a smaller one is refused with 7.
 pub fn totals_line(totals: Totals, text: &mut [u8]) -> Line
     ensures { λ r. ⌜ lineOf r ≡ totalsLineAnswer (totalsTold totals) (now (text .entry)) ⌝ }
     ensures { λ _. ⌜ now (text .exit) ≡ totalsLineBuffer (totalsTold totals) (now (text .entry)) ⌝ }

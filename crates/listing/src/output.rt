@@ -28,13 +28,14 @@ fn long(h: Header) -> usize
     h.n as usize
 }
 
-// .. and of its parity.
+// A byte as a wider number.
 fn byte(x: u8) -> usize
     ensures { λ r. ⌜ (r ≡ x) × (r < 256) ⌝ }
 {
     x as usize
 }
 
+// .. and of its parity.
 fn parity(h: Header) -> usize
     ensures { λ r. ⌜ r ≡ h .m * h .t ⌝ }
 {

@@ -102,7 +102,8 @@ fn first_above(number: usize, most: u8, bytes: &[u8], start: usize) -> Check
     Check::Passed
 }
 
-// Bytes that are at most `most` from place `start` on, refused otherwise with a number at the first that is above.
+// Bytes that are at most `most` from place `start` on, refused otherwise with a number at the first that is above; its place counts from
+// the first of all bytes. Where there are none from `start` on, they pass.
 pub fn at_most_from(number: usize, most: u8, bytes: &[u8], start: usize) -> Check
     ensures { λ r. ⌜ checked r ≡ unlessAtMost number most start (drop start (now (bytes .entry))) ⌝ }
 {

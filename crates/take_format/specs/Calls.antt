@@ -1,5 +1,6 @@
--- What the calls on one word answer, and what they leave in the caller's codeword buffer (document 01, "Hard stage",
--- "Soft stage" and "Refusals, by their cause"): a call that refuses leaves it as it was, and so does a word that is lost. Assumes nothing.
+-- What the calls answer, and what they leave in the caller's buffers (document 01, "Hard stage", "Soft stage", "Samples to symbols" and
+-- "Refusals, by their cause"): a call that refuses leaves them as they were, and a word that is lost its codeword. Assumes nothing.
+-- (The calls on a take stand with it, in `Take`.)
 use Prim.Native.Nat.{ℕ}
 use mathlib.Core.Logic.{_⊎_, inl, inr}
 use mathlib.Core.List.{List}

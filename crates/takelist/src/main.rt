@@ -1,6 +1,7 @@
 // takelist: lists the words of a take that is read from standard input, and their totals (document 01).
 //
-// All that is printed is the answer of `listing::list`. One byte more is read than a take may have, so that longer input is told apart.
+// All that is printed is the text that `listing::list` writes. One byte more is read than the program accepts, so that longer input is told
+// apart.
 use libc::STDIN_FILENO;
 use libc::STDOUT_FILENO;
 

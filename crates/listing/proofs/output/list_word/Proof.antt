@@ -1,16 +1,16 @@
 -- The line is that of the word's answer, and its mark and tries are counted. Assumes nothing.
 use Prim.Native.Nat.{ℕ, _+_, _-_}
 use native.Mathlib.Omega.{arith}
-use mathlib.Core.Path.{_≡_, ap, ap₂, sym, subst, _∙_}
+use mathlib.Core.Path.{_≡_, ap, sym, subst, _∙_}
 use borrow.Author.Needs.{needs}
 use lib.ListN.{length, take, drop, length-take, length-drop}
 use lib.Seq.{take-all}
 use Rattle.bch.specs.Words.{Bits}
 use Rattle.bch.proofs.Entries.{below-take, below-drop}
-use Rattle.take_format.specs.Batch.{markByte, countedOf, capped}
+use Rattle.take_format.specs.Batch.{markByte, countedOf}
 use Rattle.take_format.proofs.Batches.{Few, few-more, few-capped}
 use Rattle.receiver.specs.Answer.{totalsTold}
-use Rattle.receiver.proofs.Marks.{tells}
+use Rattle.receiver.proofs.Marks.{counts}
 use Rattle.takes.specs.Answer.{headerOf}
 use Rattle.listing.specs.Takelist.{lineAt}
 use Rattle.listing.specs.Progress.{answerAt}
@@ -57,9 +57,6 @@ word-requires c κs =
       omega (arith, length-take (end - start) (drop start word), c .before .before .before .long .ensures, c .before .before .before .before .parity .ensures, s .pre .1),
     )
 
-told-of-requires : tie.Need-told-of-requires
-told-of-requires c κs = search needs
-
 counted-requires : tie.Need-counted-requires
 counted-requires c κs = search needs
 
@@ -72,28 +69,26 @@ same-length-2 c = search needs
 returns : tie.Need-returns
 unfolding lineAt
 returns c =
-    let s = c .before .before .before .before .before .before .before .before .before .before .before .before .before .before .before .before .before in
+    let s = c .before .before .before .before .before .before .before .before .before .before .before .before .before .before .before .before in
     let a = s .args in
     let h = headerOf (a .h) in
     let x = answerAt (a .take .now) h (a .w) in
-    let d = c .before .before .before .before .before .before .before .before .before .before .before .before .decode-word in
+    let d = c .before .before .before .before .before .before .before .before .before .before .before .decode-word in
     let word = d .last .1 .1 .1 .0 in
-    let start = c .before .before .before .before .before .before .before .before .before .parity .result in
-    let end = c .before .before .before .before .before .before .before .before .long .result in
-    let put = c .before .before .before .before .word in
-    let told = c .before .told-of in
+    let start = c .before .before .before .before .before .before .before .before .parity .result in
+    let end = c .before .before .before .before .before .before .before .long .result in
+    let put = c .before .before .before .word in
     let at = answered-at (a .take .now) h (s .pre .0 .0) (a .w) (s .pre .0 .1) (a .codeword .now) (s .pre .0 .2 .long) in
     let answer = d .ensures .0 ∙ at .0 in
     let long : length word ≡ a .h .n = d .kept .1 .1 .1 .0 ∙ s .pre .0 .2 .long in
-    let behind = take-all (end - start) (drop start word) (omega (arith, length-drop start word, c .before .before .before .before .before .before .before .before .long .ensures, long)) ∙ ap (λ (k : ℕ). drop k word) (c .before .before .before .before .before .before .before .before .before .parity .ensures) in
-    let q = tells _ _ x answer in
+    let behind = take-all (end - start) (drop start word) (omega (arith, length-drop start word, c .before .before .before .before .before .before .before .long .ensures, long)) ∙ ap (λ (k : ℕ). drop k word) (c .before .before .before .before .before .before .before .before .parity .ensures) in
     let few = few-more (a .w) (totalsTold (a .k .totals)) (s .pre .0 .3) (markByte (x .mark)) (x .tries) (tries-at (a .take .now) h (s .pre .0 .0) (a .w) (s .pre .0 .1)) in
-    let counts = c .counted .ensures ∙ ap₂ (λ (m t : ℕ). capped (countedOf (totalsTold (a .k .totals)) m t)) (told .ensures .0 ∙ q .0) (told .ensures .1 ∙ q .1) ∙ few-capped (a .w + 1) (countedOf (totalsTold (a .k .totals)) (markByte (x .mark)) (x .tries)) few (omega (arith, s .pre .0 .1, words-most (a .take .now) h (s .pre .0 .0))) in (
+    let told = c .counted .ensures ∙ counts (totalsTold (a .k .totals)) _ word x answer ∙ few-capped (a .w + 1) (countedOf (totalsTold (a .k .totals)) (markByte (x .mark)) (x .tries)) few (omega (arith, s .pre .0 .1, words-most (a .take .now) h (s .pre .0 .0))) in (
       record {
         text = same-text (soft-line (h .code) (a .w) _ word x answer _ behind) (put .ensures .0);
-        at-most = omega (arith, put .ensures .1, length-take (end - start) (drop start word), c .before .before .before .before .before .before .before .before .long .ensures, c .before .before .before .before .before .before .before .before .before .parity .ensures);
-        totals = counts;
-        few = subst (Few (a .w + 1)) (sym counts) few;
+        at-most = omega (arith, put .ensures .1, length-take (end - start) (drop start word), c .before .before .before .before .before .before .before .long .ensures, c .before .before .before .before .before .before .before .before .parity .ensures);
+        totals = told;
+        few = subst (Few (a .w + 1)) (sym told) few;
       },
       record {
         long = long;
@@ -112,7 +107,6 @@ list-word-spec =
     part-word-start
     part-word-end
     word-requires
-    told-of-requires
     counted-requires
     same-length
     same-length-2
