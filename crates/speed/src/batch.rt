@@ -1,15 +1,6 @@
 // The answers of `decode_soft` on a batch of words.
 use receiver::Soft;
-use test_lines::number;
-use test_lines::text;
-
-// How many words have each mark, and the tries of all.
-pub struct Totals {
-    sure: usize,
-    fair: usize,
-    lost: usize,
-    tries: usize,
-}
+use receiver::Totals;
 
 // The sum of two counts, which are far from wrapping.
 fn sum(a: usize, b: usize) -> usize {
@@ -19,6 +10,7 @@ fn sum(a: usize, b: usize) -> usize {
 // The totals with one more answer.
 fn counted(totals: Totals, answer: Soft) -> Totals {
     let mut now = totals;
+    now.words = sum(now.words, 1);
     match answer {
         Soft::Refused(_) => {}
         Soft::Lost { tries } => {
@@ -40,6 +32,7 @@ fn counted(totals: Totals, answer: Soft) -> Totals {
 // Decodes the words, which are as long as the codeword, one after the other.
 pub fn decode(m: usize, t: usize, depth: usize, words: &[u8], codeword: &mut [u8]) -> Totals {
     let mut totals = Totals {
+        words: 0,
         sure: 0,
         fair: 0,
         lost: 0,
@@ -59,16 +52,4 @@ pub fn decode(m: usize, t: usize, depth: usize, words: &[u8], codeword: &mut [u8
         at = end;
     }
     totals
-}
-
-// Writes the totals.
-pub fn print(totals: Totals) {
-    number(totals.sure);
-    text(b" sure, ");
-    number(totals.fair);
-    text(b" fair, ");
-    number(totals.lost);
-    text(b" lost, ");
-    number(totals.tries);
-    text(b" tries");
 }

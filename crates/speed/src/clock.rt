@@ -5,13 +5,15 @@ use crate::samples;
 use quantiser::Ladder;
 
 // What is timed: `encode` of a message, `decode_hard` of a word, `decode_soft` at a depth of each word
-// of a batch, or `quantise` with a ladder of samples of the kinds that are the input (into symbols,
-// which take the place of the codeword; m and t are of no use there).
+// of a batch, `quantise` with a ladder of samples of the kinds that are the input, or `read_take` of a
+// take of so many words, 4000 at most. (In the last two, symbols and messages take the place of the
+// codeword, and m and t are of no use.)
 pub enum Call {
     Encode,
     Hard,
     Soft(usize),
     Quantise(Ladder),
+    Read(usize),
 }
 
 // The longest round that is told apart, in microseconds.
@@ -74,6 +76,23 @@ fn quantise_all(ladder: Ladder, kinds: &[u8], symbols: &mut [u8], calls: usize) 
     }
 }
 
+// Reads the take as often as said.
+fn read_all(take: &[u8], messages: &mut [u8], marks: &mut [u8], calls: usize) {
+    let mut left = calls;
+    while 0 < left {
+        takes::read_take(take, messages, marks);
+        left -= 1;
+    }
+}
+
+// Reads the take of so many words as often as said, by a buffer that has room for their marks.
+fn read_words(words: usize, take: &[u8], messages: &mut [u8], marks: &mut [u8], calls: usize) {
+    if marks.len() < words {
+        return;
+    }
+    read_all(take, messages, &mut marks[0..words], calls);
+}
+
 // Makes the calls.
 fn call_all(call: Call, m: usize, t: usize, input: &[u8], codeword: &mut [u8], calls: usize) {
     match call {
@@ -88,6 +107,9 @@ fn call_all(call: Call, m: usize, t: usize, input: &[u8], codeword: &mut [u8], c
         }
         Call::Quantise(ladder) => {
             quantise_all(ladder, input, codeword, calls);
+        }
+        Call::Read(words) => {
+            read_words(words, input, codeword, &mut [0; 4000], calls);
         }
     }
 }
@@ -115,8 +137,8 @@ fn enough(call: Call, m: usize, t: usize, input: &[u8], codeword: &mut [u8]) -> 
     calls
 }
 
-// The tenths of a nanosecond that a call takes in the best of five rounds: for a batch, that all its
-// words take.
+// The tenths of a nanosecond that a call takes in the best of five rounds: for a batch or a take, that
+// all its words take.
 pub fn best(call: Call, m: usize, t: usize, input: &[u8], codeword: &mut [u8]) -> usize {
     let calls = enough(call, m, t, input, codeword);
     let mut least = LONGEST;

@@ -1,13 +1,15 @@
-// Measures the four calls. With the argument `time` it prints, for each of four codes n k t, how many
+// Measures the five calls. With the argument `time` it prints, for each of four codes n k t, how many
 // nanoseconds of processor time one call of `encode` takes, in all and for each message bit, and one
 // call of `decode_hard` on a codeword with 0, t and t + 1 errors; for two codes, two levels of noise
-// and three depths, how many one call of `decode_soft` takes, on the average over 32 noisy words; and
-// how many one call of `quantise` takes, in all and for each sample, with no blanks and with half of
-// the samples blank. With no argument it makes the same calls once and prints only what they answer.
+// and three depths, how many one call of `decode_soft` takes, on the average over 32 noisy words, and
+// one word of a take that `read_take` reads; and how many one call of `quantise` takes, in all and for
+// each sample, with no blanks and with half of the samples blank. With no argument it makes the same
+// calls once and prints only what they answer.
 mod batch;
 mod clock;
 mod noise;
 mod print;
+mod reading;
 mod samples;
 mod soft;
 mod words;
@@ -123,13 +125,14 @@ fn code_rows(
 }
 
 // The rows of the four codes (at each step the word with t + 1 errors is lost), those of
-// `decode_soft`, and those of `quantise`.
+// `decode_soft`, of `read_take` and of `quantise`.
 fn all_rows(timed: bool) {
     code_rows(timed, 5, 2, 9, &mut [0; 21], &mut [0; 31], &mut [0; 31]);
     code_rows(timed, 6, 2, 20, &mut [0; 51], &mut [0; 63], &mut [0; 63]);
     code_rows(timed, 8, 2, 80, &mut [0; 239], &mut [0; 255], &mut [0; 255]);
     code_rows(timed, 8, 3, 61, &mut [0; 231], &mut [0; 255], &mut [0; 255]);
     soft::rows(timed);
+    reading::rows(timed);
     samples::rows(timed);
 }
 

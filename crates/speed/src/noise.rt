@@ -1,7 +1,7 @@
-// The batch of noisy words that the rows of `decode_soft` decode. A bit is sent as the level 8 for 0
-// and -8 for 1. The noise is the sum of so many draws of -1, 0 and 1, which is close to Gaussian:
-// 17 draws make 2.2 raw errors in 255 positions and 26 draws make 7.1. A function that draws hands
-// on the number that was drawn last.
+// The noisy words that the rows of `decode_soft` and `read_take` decode. A bit is sent as the level 8
+// for 0 and -8 for 1. The noise is the sum of so many draws of -1, 0 and 1, which is close to
+// Gaussian: 17 draws make 2.2 raw errors in 255 positions and 26 draws make 7.1. A function that
+// draws hands on the number that was drawn last.
 ghost use Prim.Native.Nat.{_≤_};
 
 // The number that was drawn last, and what was counted.

@@ -42,7 +42,7 @@ fn row(
     codeword: &mut [u8],
 ) {
     print_setting(t, depth, strength, errors, message, codeword);
-    batch::print(batch::decode(m, t, depth, words, codeword));
+    print::totals(batch::decode(m, t, depth, words, codeword));
     if !timed {
         text(b"\n");
         return;
