@@ -3,50 +3,17 @@ ghost use Prim.Native.Nat.{_≤_, _<_};
 ghost use lib.ListN.{length};
 use crate::answers;
 use crate::words;
-use receiver::Soft;
+use receiver::Totals;
+use receiver::counted;
 use test_lines::number;
 use test_lines::text;
-
-// How many words have each mark, and the tries of all.
-struct Totals {
-    sure: usize,
-    fair: usize,
-    lost: usize,
-    tries: usize,
-}
 
 // How many words are drawn: 8 kinds, 4 lengths, 7 depths and 12 pairs of m and t.
 const WORDS: usize = 2688;
 
-// The sum of two counts, which are far from wrapping.
-fn sum(a: usize, b: usize) -> usize {
-    std::num::wrapping_add_usize(a, b)
-}
-
-// The totals with one more answer.
-fn counted(totals: Totals, answer: Soft) -> Totals {
-    let mut now = totals;
-    match answer {
-        Soft::Refused(_) => {}
-        Soft::Lost { tries } => {
-            now.lost = sum(now.lost, 1);
-            now.tries = sum(now.tries, tries);
-        }
-        Soft::Fair { tries, .. } => {
-            now.fair = sum(now.fair, 1);
-            now.tries = sum(now.tries, tries);
-        }
-        Soft::Sure { tries, .. } => {
-            now.sure = sum(now.sure, 1);
-            now.tries = sum(now.tries, tries);
-        }
-    }
-    now
-}
-
 // Writes the totals.
 fn print_totals(totals: Totals) {
-    number(WORDS);
+    number(totals.words);
     text(b" words, ");
     number(totals.sure);
     text(b" sure, ");
@@ -179,6 +146,7 @@ fn word(totals: Totals, index: usize) -> Totals
 // Prints a line for each word, and the totals.
 pub fn all() {
     let mut totals = Totals {
+        words: 0,
         sure: 0,
         fair: 0,
         lost: 0,
