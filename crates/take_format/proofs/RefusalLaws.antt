@@ -231,27 +231,34 @@ words-accepted c p W symbols messages marks e =
       are-symbols = symbols-none 0 symbols hb;
     }
 
+-- ---- what holds of a refusal
+
+-- a claim about the refusal, where there is one
+abbrev pub IfRefused : (Refusal → Type 0) → Option Refusal → Type 0
+IfRefused P o = (r : Refusal) → o ≡ some r → P r
+
+-- what holds of all checks holds of the first that refuses
+module _ (P : Refusal → Type 0) where
+  unfoldable pub AllSo : List (Option Refusal) → Type 0
+  AllSo [] = Unit {0}
+  AllSo (o ∷ os) = IfRefused P o × AllSo os
+
+  pub first-so : (os : List (Option Refusal)) → AllSo os → IfRefused P (firstOf os)
+  unfolding AllSo firstOf
+  first-so [] a r e = some-not-none r (sym e)
+  first-so (none ∷ os) a r e = first-so os (a .1) r e
+  first-so (some s ∷ os) a r e = a .0 r e
+
+  pub both-so : (os ps : List (Option Refusal)) → AllSo os → AllSo ps → AllSo (os ++ ps)
+  unfolding AllSo
+  both-so [] ps a b = b
+  both-so (o ∷ os) ps a b = (a .0, both-so os ps (a .1) b)
+
 -- ---- the place of a refusal
 
 -- where it is refused at all, then at a place that is not beyond
-abbrev pub Within : ℕ → Option Refusal → Type 0
-Within most o = (r : Refusal) → o ≡ some r → r .place ≤ most
-
--- so does the first of checks that do
-AllWithin : ℕ → List (Option Refusal) → Type 0
-AllWithin most [] = Unit {0}
-AllWithin most (o ∷ os) = Within most o × AllWithin most os
-
-first-within : (most : ℕ) (os : List (Option Refusal)) → AllWithin most os → Within most (firstOf os)
-unfolding AllWithin firstOf
-first-within most [] a r e = some-not-none r (sym e)
-first-within most (none ∷ os) a r e = first-within most os (a .1) r e
-first-within most (some s ∷ os) a r e = a .0 r e
-
-both-within : (most : ℕ) (os ps : List (Option Refusal)) → AllWithin most os → AllWithin most ps → AllWithin most (os ++ ps)
-unfolding AllWithin
-both-within most [] ps a b = b
-both-within most (o ∷ os) ps a b = (a .0, both-within most os ps (a .1) b)
+abbrev Within : ℕ → Option Refusal → Type 0
+Within most o = IfRefused (λ (r : Refusal). r .place ≤ most) o
 
 within-unless : (most k : ℕ) (b : Bool) → Within most (unless k b)
 unfolding unless
@@ -270,12 +277,13 @@ within-bytes k most at (x ∷ xs) r e = go (leb x most) e (within-bytes k most (
 
 -- the soft stage's, not beyond its symbols
 pub soft-within : (c : Code) (p : ℕ) (symbols codeword : List ℕ) → Within (length symbols) (softRefusal c p symbols codeword)
-unfolding softRefusal symbolsCheck settings depthCheck inputLength outputLength symbolBytes AllWithin
+unfolding softRefusal symbolsCheck settings depthCheck inputLength outputLength symbolBytes AllSo
 soft-within c p symbols codeword =
     let most = length symbols in
+    let near : Refusal → Type 0 = λ r. r .place ≤ most in
     let n = wordLength c in
     let bytes : Within most (unlessAtMost 9 31 0 symbols) = λ r e. omega (arith, within-bytes 9 31 0 symbols r e) in
     let word = depthCheck p ∷ inputLength n (length symbols) ∷ outputLength n (length codeword) ∷ symbolBytes 0 symbols ∷ [] in
-    let named : AllWithin most (settings c) = (within-unless most 1 (leb 5 (c .m) && leb (c .m) 8), (within-unless most 2 (leb 1 (c .t) && leb (c .t) 3), (within-unless most 3 (leb (parityLength c + 1) (c .n) && leb (c .n) (2 ^ c .m - 1)), tt))) in
-    let later : AllWithin most word = (within-unless most 4 (leb p 6), (within-unless most 6 (eqb (length symbols) n), (within-unless most 7 (eqb (length codeword) n), (bytes, tt)))) in
-    first-within most (settings c ++ firstOf word ∷ []) (both-within most (settings c) (firstOf word ∷ []) named (first-within most word later, tt))
+    let named : AllSo near (settings c) = (within-unless most 1 (leb 5 (c .m) && leb (c .m) 8), (within-unless most 2 (leb 1 (c .t) && leb (c .t) 3), (within-unless most 3 (leb (parityLength c + 1) (c .n) && leb (c .n) (2 ^ c .m - 1)), tt))) in
+    let later : AllSo near word = (within-unless most 4 (leb p 6), (within-unless most 6 (eqb (length symbols) n), (within-unless most 7 (eqb (length codeword) n), (bytes, tt)))) in
+    first-so near (settings c ++ firstOf word ∷ []) (both-so near (settings c) (firstOf word ∷ []) named (first-so near word later, tt))
