@@ -1,0 +1,5 @@
+mod Laddered
+mod Promises
+mod Raised
+mod Sizes
+pub mod Unpacked
