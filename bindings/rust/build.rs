@@ -1,0 +1,18 @@
+//! Tells the linker where the archive of the proved calls is: in the folder that RECEIVER_ARCHIVE names, otherwise where
+//! `tools/archive` writes it.
+use std::{env, path::PathBuf};
+
+fn main() {
+    println!("cargo:rerun-if-env-changed=RECEIVER_ARCHIVE");
+    let folder = match env::var_os("RECEIVER_ARCHIVE") {
+        Some(folder) => PathBuf::from(folder),
+        None => PathBuf::from(env::var_os("CARGO_MANIFEST_DIR").unwrap()).join("../../target/staticlib"),
+    };
+    let archive = folder.join("libreceiver_c.a");
+    println!("cargo:rerun-if-changed={}", archive.display());
+    if !archive.exists() {
+        println!("cargo:warning={} is not there: run tools/archive first", archive.display());
+    }
+    println!("cargo:rustc-link-search=native={}", folder.display());
+    println!("cargo:rustc-link-lib=static=receiver_c");
+}
