@@ -1,0 +1,9 @@
+//! What the programs of this crate share.
+
+pub mod draw;
+pub mod reference;
+
+/// The positions where two words of the same length differ.
+pub fn differences<'a>(left: &'a [u8], right: &'a [u8]) -> impl Iterator<Item = usize> + 'a {
+    (0..left.len()).filter(move |&position| left[position] != right[position])
+}
