@@ -1,0 +1,60 @@
+/*
+ * What the receiver's times are measured against, in C: an encoder, two decoders of binary BCH codes and a quantiser. Nothing is
+ * checked here, and the tables of a code are filled before any word is decoded.
+ *
+ * - decode_hard, decode_soft and read_words decode as the receiver does: the syndromes of a test word are those of the received bits
+ *   plus those of the flipped weak positions, the roots of the locator come in closed form from tables of solutions, and the search ends
+ *   with the first codeword that is sure.
+ *
+ * - textbook_hard, textbook_soft and textbook_words decode as a textbook has it: each of the 2^p test words is written out and decoded
+ *   for itself, with the syndromes added up over its n positions and the locator's roots searched among n positions.
+ */
+#ifndef CORE_H
+#define CORE_H
+
+#include <stddef.h>
+#include <stdint.h>
+
+/* core.c is built twice, without and with branches where it ranks. */
+#ifdef BRANCHES
+#define CORE(name) core_branches_##name
+#else
+#define CORE(name) core_plain_##name
+#endif
+
+/* A code and its tables. */
+struct code;
+
+/* What the soft stage answers. */
+enum { LOST, FAIR, SURE };
+
+struct answer {
+    uint32_t mark, distance;
+    int32_t margin;
+    uint32_t flips, place, tries;
+};
+
+/* How many words have each mark, and the tries of all. */
+struct totals {
+    uint32_t marks[3], tries;
+};
+
+struct code *CORE(new_code)(uint32_t m, uint32_t t, uint32_t n);
+void CORE(free_code)(struct code *);
+
+void CORE(encode)(const struct code *, const uint8_t *message, uint8_t *codeword);
+
+/* The number of flips, and -1 for a lost word; so also textbook_hard. */
+int32_t CORE(decode_hard)(const struct code *, const uint8_t *bits, uint8_t *codeword);
+struct answer CORE(decode_soft)(const struct code *, uint32_t depth, const uint8_t *symbols, uint8_t *codeword);
+struct totals CORE(read_words)(const struct code *, uint32_t depth, size_t words, const uint8_t *symbols, uint8_t *messages,
+                               uint8_t *marks);
+
+int32_t CORE(textbook_hard)(const struct code *, const uint8_t *bits, uint8_t *codeword);
+struct answer CORE(textbook_soft)(const struct code *, uint32_t depth, const uint8_t *symbols, uint8_t *codeword);
+struct totals CORE(textbook_words)(const struct code *, uint32_t depth, size_t words, const uint8_t *symbols, uint8_t *messages,
+                                   uint8_t *marks);
+
+void CORE(quantise)(const float *edges, size_t samples, const uint8_t *kinds, const float *levels, uint8_t *symbols);
+
+#endif

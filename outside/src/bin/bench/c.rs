@@ -1,0 +1,155 @@
+//! The encoder, the two decoders and the quantiser in C (c/core.h), and the clock (c/clock.c).
+use bch_receiver::{Code, Found, Hard, Soft, Totals};
+use std::time::Duration;
+
+/// The tables of a code, as C has them.
+#[repr(C)]
+struct Tables {
+    _private: [u8; 0],
+}
+
+#[repr(C)]
+struct Answer {
+    mark: u32,
+    distance: u32,
+    margin: i32,
+    flips: u32,
+    place: u32,
+    tries: u32,
+}
+
+#[repr(C)]
+struct Counts {
+    marks: [u32; 3],
+    tries: u32,
+}
+
+/// The functions of one decoder in one build.
+struct Calls {
+    new_code: unsafe extern "C" fn(u32, u32, u32) -> *mut Tables,
+    free_code: unsafe extern "C" fn(*mut Tables),
+    encode: unsafe extern "C" fn(*const Tables, *const u8, *mut u8),
+    hard: unsafe extern "C" fn(*const Tables, *const u8, *mut u8) -> i32,
+    soft: unsafe extern "C" fn(*const Tables, u32, *const u8, *mut u8) -> Answer,
+    words: unsafe extern "C" fn(*const Tables, u32, usize, *const u8, *mut u8, *mut u8) -> Counts,
+}
+
+macro_rules! calls {
+    ($build:literal, $hard:literal, $soft:literal, $words:literal) => {{
+        extern "C" {
+            #[link_name = concat!("core_", $build, "_new_code")]
+            fn new_code(m: u32, t: u32, n: u32) -> *mut Tables;
+            #[link_name = concat!("core_", $build, "_free_code")]
+            fn free_code(tables: *mut Tables);
+            #[link_name = concat!("core_", $build, "_encode")]
+            fn encode(tables: *const Tables, message: *const u8, codeword: *mut u8);
+            #[link_name = concat!("core_", $build, $hard)]
+            fn hard(tables: *const Tables, bits: *const u8, codeword: *mut u8) -> i32;
+            #[link_name = concat!("core_", $build, $soft)]
+            fn soft(tables: *const Tables, depth: u32, symbols: *const u8, codeword: *mut u8) -> Answer;
+            #[link_name = concat!("core_", $build, $words)]
+            fn words(tables: *const Tables, depth: u32, words: usize, symbols: *const u8, messages: *mut u8, marks: *mut u8) -> Counts;
+        }
+        Calls { new_code, free_code, encode, hard, soft, words }
+    }};
+}
+
+static CLOSED_FORM: [Calls; 2] =
+    [calls!("plain", "_decode_hard", "_decode_soft", "_read_words"), calls!("branches", "_decode_hard", "_decode_soft", "_read_words")];
+
+static TEXTBOOK: [Calls; 2] = [
+    calls!("plain", "_textbook_hard", "_textbook_soft", "_textbook_words"),
+    calls!("branches", "_textbook_hard", "_textbook_soft", "_textbook_words"),
+];
+
+/// A decoder of one code. Its tables are filled.
+pub struct Decoder {
+    code: Code,
+    calls: &'static Calls,
+    tables: *mut Tables,
+}
+
+impl Decoder {
+    /// The closed form, in each build.
+    pub fn closed_form(code: Code) -> impl Iterator<Item = Decoder> {
+        CLOSED_FORM.iter().map(move |calls| Decoder::new(code, calls))
+    }
+
+    /// The textbook, in each build.
+    pub fn textbook(code: Code) -> impl Iterator<Item = Decoder> {
+        TEXTBOOK.iter().map(move |calls| Decoder::new(code, calls))
+    }
+
+    fn new(code: Code, calls: &'static Calls) -> Decoder {
+        assert!((5..=8).contains(&code.m) && (1..=3).contains(&code.t) && (code.m * code.t + 1..1 << code.m).contains(&code.n));
+        // Safety: the code is one of those that C has a generator for.
+        let tables = unsafe { (calls.new_code)(code.m as u32, code.t as u32, code.n as u32) };
+        Decoder { code, calls, tables }
+    }
+
+    pub fn encode(&self, message: &[u8], codeword: &mut [u8]) {
+        assert!(message.len() + self.code.m * self.code.t == self.code.n && codeword.len() == self.code.n);
+        // Safety: the lengths are those of the code, as also below.
+        unsafe { (self.calls.encode)(self.tables, message.as_ptr(), codeword.as_mut_ptr()) }
+    }
+
+    pub fn hard(&self, bits: &[u8], codeword: &mut [u8]) -> Hard {
+        assert!(bits.len() == self.code.n && codeword.len() == self.code.n);
+        match unsafe { (self.calls.hard)(self.tables, bits.as_ptr(), codeword.as_mut_ptr()) } {
+            -1 => Hard::Lost,
+            flips => Hard::Found { flips: flips as usize },
+        }
+    }
+
+    pub fn soft(&self, depth: usize, symbols: &[u8], codeword: &mut [u8]) -> Soft {
+        assert!(depth <= 6 && symbols.len() == self.code.n && codeword.len() == self.code.n);
+        let answer = unsafe { (self.calls.soft)(self.tables, depth as u32, symbols.as_ptr(), codeword.as_mut_ptr()) };
+        let found = Found {
+            distance: answer.distance as usize,
+            margin: answer.margin,
+            flips: answer.flips as usize,
+            place: answer.place as usize,
+            tries: answer.tries as usize,
+        };
+        match answer.mark {
+            0 => Soft::Lost { tries: found.tries },
+            1 => Soft::Fair(found),
+            _ => Soft::Sure(found),
+        }
+    }
+
+    /// Reads the words of a take: its symbols, without a header.
+    pub fn read_words(&self, depth: usize, symbols: &[u8], messages: &mut [u8], marks: &mut [u8]) -> Totals {
+        let (words, code) = (marks.len(), self.code);
+        assert!(depth <= 6 && symbols.len() == words * code.n && messages.len() + words * code.m * code.t == symbols.len());
+        let counts =
+            unsafe { (self.calls.words)(self.tables, depth as u32, words, symbols.as_ptr(), messages.as_mut_ptr(), marks.as_mut_ptr()) };
+        let [lost, fair, sure] = counts.marks.map(|count| count as usize);
+        Totals { words, sure, fair, lost, tries: counts.tries as usize }
+    }
+}
+
+impl Drop for Decoder {
+    fn drop(&mut self) {
+        // Safety: the tables are this decoder's alone.
+        unsafe { (self.calls.free_code)(self.tables) }
+    }
+}
+
+extern "C" {
+    fn processor_time() -> u64;
+    fn core_plain_quantise(edges: *const f32, samples: usize, kinds: *const u8, levels: *const f32, symbols: *mut u8);
+}
+
+/// The quantiser, which is the same in both builds.
+pub fn quantise(edges: &[f32; 15], kinds: &[u8], levels: &[f32], symbols: &mut [u8]) {
+    assert!(kinds.len() == levels.len() && symbols.len() == levels.len());
+    // Safety: all three have as many samples.
+    unsafe { core_plain_quantise(edges.as_ptr(), levels.len(), kinds.as_ptr(), levels.as_ptr(), symbols.as_mut_ptr()) }
+}
+
+/// The processor time that this thread has used.
+pub fn clock() -> Duration {
+    // Safety: nothing is handed over.
+    Duration::from_nanos(unsafe { processor_time() })
+}

@@ -1,0 +1,107 @@
+//! Prints one table: how long the receiver's calls take, and beside them what may be used in their place, on the same inputs. Where one
+//! of these answers otherwise than the receiver, the program says so and ends with status 1.
+mod c;
+mod calls;
+mod draw;
+mod itpp;
+mod row;
+mod table;
+mod takelist;
+
+use bch_receiver::Code;
+use draw::{HEAVY, LIGHT};
+use std::fs;
+use std::process::ExitCode;
+use table::Line;
+
+/// How often the whole table is measured: the least time of each cell counts, so a busy minute does no harm.
+const SWEEPS: usize = 5;
+
+const CODES: [Code; 4] = [Code::new(5, 2, 31), SHORT, Code::new(8, 2, 255), LONG];
+const SHORT: Code = Code::new(6, 2, 63);
+const LONG: Code = Code::new(8, 3, 255);
+/// The shortest code. Its takes have the most words.
+const SHORTEST: Code = Code::new(5, 1, 6);
+
+fn main() -> ExitCode {
+    print_setting();
+    match measure() {
+        Ok(lines) => {
+            table::print(&lines);
+            ExitCode::SUCCESS
+        }
+        Err(difference) => {
+            eprintln!("{}", difference);
+            ExitCode::FAILURE
+        }
+    }
+}
+
+/// Says what was measured, and how.
+fn print_setting() {
+    println!("{}; {}; {}, -O3; {}.", processor(), env!("BENCH_RUSTC"), env!("BENCH_CC"), env!("BENCH_ITPP"));
+    println!(
+        "Nanoseconds of processor time for a word (quantise: a sample; takelist: of real time for a byte of the take, its\n\
+         start included): the least of up to {} rounds, in which the columns take turns. In brackets: times the receiver's.\n\
+         Rust: outside/src/reference.rs, made to be plain. Textbook C, C: outside/c/core.c, the faster of two builds.\n\
+         C decodes as the receiver does, but checks nothing and has its tables before the clock starts, as Rust and\n\
+         IT++ have; the receiver checks its inputs and fills its tables in each call. The buffers are not cleared\n\
+         between calls.",
+        SWEEPS * row::ROUNDS
+    );
+    if takelist::program().is_none() {
+        println!("The program takelist is not built: its rows are left out.");
+    }
+    println!();
+}
+
+fn processor() -> String {
+    let text = fs::read_to_string("/proc/cpuinfo").unwrap_or_default();
+    let name = text.lines().find(|line| line.starts_with("model name")).and_then(|line| line.split(": ").nth(1));
+    name.unwrap_or("a processor without a name").to_string()
+}
+
+/// Measures the table several times and keeps the least times.
+fn measure() -> Result<Vec<Line>, String> {
+    let mut lines = sweep()?;
+    for _ in 1..SWEEPS {
+        lines.iter_mut().zip(sweep()?).for_each(|(line, again)| line.merge(&again));
+    }
+    for line in lines.iter_mut().filter(|line| line.call == "takelist") {
+        let rate = line.times[row::Column::Receiver as usize].map_or(0.0, |each| 1000.0 / each);
+        line.case += &format!(": {:.1} MB/s", rate);
+    }
+    Ok(lines)
+}
+
+fn sweep() -> Result<Vec<Line>, String> {
+    let mut lines = Vec::new();
+    for code in CODES {
+        lines.push(calls::encode(code)?);
+        for errors in [0, code.t, code.t + 1] {
+            lines.push(calls::hard(code, errors)?);
+        }
+    }
+    for code in [SHORT, LONG] {
+        for noise in [LIGHT, HEAVY] {
+            for depth in [0, 3, 6] {
+                lines.push(calls::soft(code, noise, depth)?);
+            }
+        }
+    }
+    for (code, words) in [(SHORT, 900), (SHORT, 4000), (LONG, 200), (LONG, 2000)] {
+        for noise in [LIGHT, HEAVY] {
+            for depth in [0, 3, 6] {
+                lines.push(calls::read_take(code, words, noise, depth)?);
+            }
+        }
+    }
+    lines.push(calls::quantise("no blanks", false)?);
+    lines.push(calls::quantise("half of them blank", true)?);
+    if let Some(program) = takelist::program() {
+        for code in [SHORT, LONG, SHORTEST] {
+            lines.push(takelist::line(&program, code)?);
+        }
+    }
+    Ok(lines)
+}
