@@ -1,1 +1,3 @@
+mod Bad
+mod Symbols
 pub mod Answers

@@ -1,9 +1,10 @@
 -- What the quantiser's values mean, in document 01's numbers. Assumes nothing.
+use Prim.Native.Nat.{ℕ, zero, suc}
 use mathlib.Core.Bool.{Bool, true, false}
 use mathlib.Core.Logic.{_⊎_, inl, inr}
 use mathlib.Core.List.{List, [], _∷_}
 use mathlib.Core.Option.{Option, none, some}
-use lib.Ieee.{Float}
+use lib.Ieee.{Float, isNan}
 use Rattle.take_format.specs.Refusal.{Refusal}
 use Rattle.take_format.specs.Samples as Samples
 use Rattle.refusal.specs.Checked.{refusalOf}
@@ -42,6 +43,21 @@ madeOf (Accepted l) = inr (edgesOf l)
 unfoldable pub sampleTold : Sample → Samples.Sample
 sampleTold Blank = Samples.blank
 sampleTold (Heard x) = Samples.heard x
+
+-- of a sample: 1 where it was heard, and its level; a blank has 0 for both. Cited by the contracts of private functions alone
+unfoldable pub heardOf : Samples.Sample → ℕ
+heardOf Samples.blank = 0
+heardOf (Samples.heard x) = 1
+
+unfoldable pub levelOf : Samples.Sample → Float
+levelOf Samples.blank = Samples.zeroLevel
+levelOf (Samples.heard x) = x
+
+-- whether a kind and a level are refused. Cited by the contract of a private function alone
+unfoldable pub isBad : ℕ → Float → Bool
+isBad zero x = false
+isBad (suc zero) x = isNan x
+isBad (suc (suc k)) x = true
 
 -- whether there is a refusal
 unfoldable pub isRefusal : Option Refusal → Bool

@@ -7,10 +7,17 @@ ghost use lib.ListN.{length};
 ghost use Rattle.take_format.specs.Samples.{zeroLevel, sampleOf, quantised, samplesCheck};
 ghost use Rattle.take_format.specs.Samples.{magnitude as Samples·magnitude, symbol as Samples·symbol};
 ghost use Rattle.refusal.specs.Checked.{checked};
-ghost use Rattle.quantiser.specs.Told.{sampleTold};
+ghost use Rattle.quantiser.specs.Told.{sampleTold, heardOf, levelOf, isBad};
 use crate::Sample;
 use crate::edges;
 use refusal::Check;
+
+// Whether a sample is refused. (A question of its own, so that a blank takes no branch.)
+fn bad(kind: u8, level: f32) -> bool
+    ensures { λ r. ⌜ r ≡ isBad kind level ⌝ }
+{
+    (kind > 1) | ((kind == 1) & (level != level))
+}
 
 // The samples one after the other: 10, 11.
 pub fn check(kinds: &[u8], levels: &[f32]) -> Check
@@ -21,13 +28,11 @@ pub fn check(kinds: &[u8], levels: &[f32]) -> Check
     while i < kinds.len() {
         let kind = kinds[i];
         let level = levels[i];
-        if kind != 0 {
+        if bad(kind, level) {
             if 1 < kind {
                 return refusal::refuse(10, i);
             }
-            if level != level {
-                return refusal::refuse(11, i);
-            }
+            return refusal::refuse(11, i);
         }
         i += 1;
     }
@@ -60,15 +65,35 @@ fn hard_bit(level: f32) -> u8
     if level < 0.0 { 16 } else { 0 }
 }
 
-// The symbol of a sample.
+// 1 where a sample was heard, otherwise 0.
+fn heard(sample: Sample) -> u8
+    ensures { λ r. ⌜ r ≡ heardOf (sampleTold sample) ⌝ }
+    ensures { λ r. ⌜ r ≤ 1 ⌝ }
+{
+    match sample {
+        Sample::Blank => 0,
+        Sample::Heard(_) => 1,
+    }
+}
+
+// The level that was heard, or 0.
+fn level_of(sample: Sample) -> f32
+    ensures { λ r. ⌜ r ≡ levelOf (sampleTold sample) ⌝ }
+{
+    match sample {
+        Sample::Blank => 0.0,
+        Sample::Heard(level) => level,
+    }
+}
+
+// The symbol of a sample. A blank's is made too, and taken 0 times: so there is no branch that a blank takes.
 fn symbol(edges: &[f32], sample: Sample) -> u8
     requires { ⌜ length (now edges) ≤ 15 ⌝ }
     ensures { λ r. ⌜ r ≡ Samples·symbol (now (edges .entry)) (sampleTold sample) ⌝ }
 {
-    match sample {
-        Sample::Blank => 0,
-        Sample::Heard(level) => hard_bit(level) + edges::count(edges, magnitude(level)),
-    }
+    let level = level_of(sample);
+    let whole = hard_bit(level) + edges::count(edges, magnitude(level));
+    heard(sample) * whole
 }
 
 // Writes the symbol of each sample.

@@ -6,8 +6,9 @@ use mathlib.Core.Logic.{⊎-elim}
 use borrow.Author.Needs.{needs}
 use lib.ListN.{length, drop}
 use Rattle.take_format.specs.Samples.{samplesCheck}
-use Rattle.take_format.proofs.SampleSteps.{differs-nan, check-kind, check-nan, check-blank, check-heard, check-end}
+use Rattle.take_format.proofs.SampleSteps.{check-kind, check-nan, check-blank, check-heard, check-end}
 use Rattle.refusal.specs.Checked.{checked}
+use Rattle.quantiser.proofs.Bad.{bad-nan, not-bad}
 use Rattle.quantiser.proofs.samples.check.Statement.{statement}
 use Rattle.quantiser.proofs.samples.check.Tie as tie
 
@@ -29,16 +30,19 @@ mul-level c = search needs
 shared-slice-read-level : tie.Need-shared-slice-read-level Inv-loop μ-loop
 shared-slice-read-level c = search needs
 
+bad-requires : tie.Need-bad-requires Inv-loop μ-loop
+bad-requires c κs = search needs
+
 refuse-requires : tie.Need-refuse-requires Inv-loop μ-loop
 refuse-requires c κs = search needs
 
 returns : tie.Need-returns Inv-loop μ-loop
 returns c =
-    let s = c .before .before .before .before .before .before .before .before .before in
-    let l = c .before .before .before .before .before .before .loop in
+    let s = c .before .before .before .before .before .before .before .before .before .before in
+    let l = c .before .before .before .before .before .before .before .loop in
     let ks = s .args .kinds .now in
     let xs = s .args .levels .now in
-    c .refuse .ensures ∙ check-kind ks xs (l .i) (s .pre) (omega arith) (c .before .if2 .taken) ∙ l .inv .1
+    c .refuse .ensures ∙ check-kind ks xs (l .i) (s .pre) (omega arith) (omega (arith, c .before .if2 .taken)) ∙ l .inv .1
 
 refuse-requires-2 : tie.Need-refuse-requires-2 Inv-loop μ-loop
 refuse-requires-2 c κs = search needs
@@ -49,7 +53,8 @@ returns-2 c =
     let l = c .before .before .before .before .before .before .before .loop in
     let ks = s .args .kinds .now in
     let xs = s .args .levels .now in
-    c .refuse2 .ensures ∙ check-nan ks xs (l .i) (s .pre) (omega arith) (omega arith) (differs-nan _ _ (c .before .if3 .taken)) ∙ l .inv .1
+    let n = bad-nan _ _ (sym (c .before .before .if1 .taken) ∙ c .before .before .before .bad .ensures) (omega (arith, c .before .if2 .left)) in
+    c .refuse2 .ensures ∙ check-nan ks xs (l .i) (s .pre) (omega arith) (n .0) (n .1) ∙ l .inv .1
 
 add-i : tie.Need-add-i Inv-loop μ-loop
 add-i c = search needs
@@ -59,15 +64,15 @@ loop-less c = search needs
 
 loop-again : tie.Need-loop-again Inv-loop μ-loop
 loop-again c =
-    let s = c .before .before .before .before .before .before .before in
-    let l = c .before .before .before .before .loop in
+    let s = c .before .before .before .before .before .before .before .before in
+    let l = c .before .before .before .before .before .loop in
     let ks = s .args .kinds .now in
     let xs = s .args .levels .now in
     let step : samplesCheck (l .i + 1) (drop (l .i + 1) ks) (drop (l .i + 1) xs) ≡ samplesCheck (l .i) (drop (l .i) ks) (drop (l .i) xs) =
     ⊎-elim
-    (λ w. sym (check-heard ks xs (l .i) (s .pre) (omega arith) (omega arith) (differs-nan _ _ (w .2 .left))))
-    (λ w. sym (check-blank ks xs (l .i) (s .pre) (omega arith) (w .left)))
-    (c .if1 .came) in
+    (λ w. sym (check-blank ks xs (l .i) (s .pre) (omega arith) w))
+    (λ w. sym (check-heard ks xs (l .i) (s .pre) (omega arith) (w .0) (w .1)))
+    (not-bad _ _ (sym (c .if1 .left) ∙ c .before .bad .ensures)) in
     (omega arith, step ∙ l .inv .1)
 
 returns-3 : tie.Need-returns-3 Inv-loop μ-loop
@@ -89,6 +94,7 @@ check-spec =
     shared-slice-read-kind
     mul-level
     shared-slice-read-level
+    bad-requires
     refuse-requires
     returns
     refuse-requires-2

@@ -1,17 +1,14 @@
--- A blank gives 0, and a heard level its bit and its count. Assumes nothing.
-use mathlib.Core.Path.{ap}
+-- The whole symbol of the level, once or 0 times. Assumes nothing.
+use native.Mathlib.Omega.{arith}
+use native.Mathlib.Nat.{mul-le-mul}
 use borrow.Author.Needs.{needs}
-use Rattle.take_format.specs.Samples.{symbol as Samples·symbol}
-use Rattle.take_format.proofs.SampleSteps.{symbol-heard}
-use Rattle.quantiser.specs.Told.{sampleTold}
+use Prim.Native.Nat.{_+_, _*_, _≤_}
+use Rattle.quantiser.proofs.Symbols.{symbol-is}
 use Rattle.quantiser.proofs.samples.symbol.Statement.{statement}
 use Rattle.quantiser.proofs.samples.symbol.Tie as tie
 
-enum-told : tie.Need-enum-told
-enum-told c = search needs
-
-enum-known-sample : tie.Need-enum-known-sample
-enum-known-sample c = search needs
+level-of-requires : tie.Need-level-of-requires
+level-of-requires c κs = search needs
 
 hard-bit-requires : tie.Need-hard-bit-requires
 hard-bit-requires c κs = search needs
@@ -22,29 +19,34 @@ magnitude-requires c κs = search needs
 count-requires : tie.Need-count-requires
 count-requires c κs = search needs
 
-add-result : tie.Need-add-result
-add-result c = search needs
+add-whole : tie.Need-add-whole
+add-whole c = search needs
+
+heard-requires : tie.Need-heard-requires
+heard-requires c κs = search needs
+
+mul-result : tie.Need-mul-result
+mul-result c =
+    let whole = c .before .before .before .hard-bit .result + c .before .count .result in
+    let small : whole ≤ 31 = omega (arith, c .before .before .before .hard-bit .ensures .1, c .before .count .ensures .1) in
+    let most : c .heard .result * whole ≤ 1 * 31 = mul-le-mul (c .heard .ensures .1) small in
+    omega (arith, most)
 
 returns : tie.Need-returns
-unfolding Samples·symbol sampleTold
-returns c = search needs
-
-returns-2 : tie.Need-returns-2
-unfolding Samples·symbol sampleTold
-returns-2 c =
-    let a = c .before .before .before .before .before .before .before .args in
-    symbol-heard (a .edges .now) _ _ _ _ _ (ap sampleTold (c .before .before .before .before .sample .given .1)) (c .before .before .hard-bit .ensures .0) (c .before .magnitude .ensures)
-    (c .count .ensures .0)
+returns c =
+    let a = c .before .before .before .before .before .before .args in
+    symbol-is (a .edges .now) _ _ _ _ _ _ (c .before .before .before .before .level-of .ensures) (c .before .before .before .hard-bit .ensures .0) (c .before .before .magnitude .ensures)
+    (c .before .count .ensures .0) (c .heard .ensures .0)
 
 pub symbol-spec : {M : Type 1} → statement M
 symbol-spec =
     tie.close
     (tie.spec
-    enum-told
-    enum-known-sample
+    level-of-requires
     hard-bit-requires
     magnitude-requires
     count-requires
-    add-result
-    returns
-    returns-2)
+    add-whole
+    heard-requires
+    mul-result
+    returns)
