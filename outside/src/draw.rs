@@ -1,13 +1,17 @@
-//! Pseudo-random draws that a seed repeats.
+//! Pseudo-random draws that a seed repeats, the same on every machine: floats are made by sums, products, quotients and square roots alone,
+//! which are exact in their last digit everywhere.
+
+use std::f64::consts::LN_2;
 
 /// The generator splitmix64.
 pub struct Draw {
     state: u64,
+    spare: Option<f64>,
 }
 
 impl Draw {
     pub fn new(seed: u64) -> Draw {
-        Draw { state: seed }
+        Draw { state: seed, spare: None }
     }
 
     /// Any 64 bits.
@@ -41,7 +45,10 @@ impl Draw {
 
     /// Fills the slice with bits, one in each byte.
     pub fn bits(&mut self, bits: &mut [u8]) {
-        bits.iter_mut().for_each(|bit| *bit = self.bit());
+        for chunk in bits.chunks_mut(64) {
+            let number = self.number();
+            chunk.iter_mut().enumerate().for_each(|(i, bit)| *bit = (number >> i & 1) as u8);
+        }
     }
 
     /// Fills the slice with any bytes.
@@ -57,16 +64,37 @@ impl Draw {
         (self.number() >> 11) as f64 / (1u64 << 53) as f64
     }
 
-    /// A number of the normal distribution with mean 0 and variance 1 (Box and Muller).
+    /// A number of the normal distribution of mean 0 and variance 1 (Marsaglia's polar method, which makes two at a time).
     pub fn gauss(&mut self) -> f64 {
-        let radius = (-2.0 * (1.0 - self.uniform()).ln()).sqrt();
-        radius * (std::f64::consts::TAU * self.uniform()).cos()
+        if let Some(spare) = self.spare.take() {
+            return spare;
+        }
+        loop {
+            let x = 2.0 * self.uniform() - 1.0;
+            let y = 2.0 * self.uniform() - 1.0;
+            let square = x * x + y * y;
+            if square > 0.0 && square < 1.0 {
+                let scale = (2.0 * minus_ln(square) / square).sqrt();
+                self.spare = Some(y * scale);
+                return x * scale;
+            }
+        }
     }
+}
+
+/// -ln x for a normal number x between 0 and 1. With x = f / 2^e and f from 1/2 to 1 it is e ln 2 + 2 artanh((1 - f) / (1 + f)).
+fn minus_ln(x: f64) -> f64 {
+    const TERMS: i32 = 16;
+    let halvings = 1022 - (x.to_bits() >> 52) as i32;
+    let fraction = f64::from_bits(x.to_bits() & (u64::MAX >> 12) | 1022 << 52);
+    let y = (1.0 - fraction) / (1.0 + fraction);
+    let series = (0..TERMS).rev().fold(0.0, |sum, i| sum * y * y + 1.0 / f64::from(2 * i + 1));
+    f64::from(halvings) * LN_2 + 2.0 * y * series
 }
 
 #[cfg(test)]
 mod tests {
-    use super::Draw;
+    use super::{minus_ln, Draw};
 
     /// The published first numbers of splitmix64 from the seed 1234567.
     #[test]
@@ -95,5 +123,34 @@ mod tests {
         let mut seen = [false; 7];
         (0..1000).for_each(|_| seen[draw.below(7)] = true);
         assert_eq!(seen, [true; 7]);
+    }
+
+    #[test]
+    fn logarithm() {
+        for x in [1e-300, 1e-9, 0.1, 0.25, 0.3, 0.5, 0.7, 0.999_999, 1.0 - f64::EPSILON / 2.0] {
+            let (got, right) = (minus_ln(x), -x.ln());
+            assert!((got - right).abs() <= 1e-14 * right.max(1.0), "{x}: {got}, not {right}");
+        }
+    }
+
+    #[test]
+    fn normal_distribution() {
+        // Moments 1 to 4 and the tail beyond 3, each with its standard deviation over the draws.
+        const DRAWS: usize = 1_000_000;
+        let mut draw = Draw::new(1);
+        let mut sums = [0.0; 5];
+        for _ in 0..DRAWS {
+            let x = draw.gauss();
+            for (power, sum) in sums[..4].iter_mut().enumerate() {
+                *sum += x.powi(power as i32 + 1);
+            }
+            sums[4] += f64::from(u8::from(x.abs() > 3.0));
+        }
+        let right = [0.0, 1.0, 0.0, 3.0, 0.002_699_796];
+        let deviations = [1.0, 2.0f64.sqrt(), 15.0f64.sqrt(), 96.0f64.sqrt(), 0.002_699_796f64.sqrt()];
+        for i in 0..5 {
+            let off = (sums[i] / DRAWS as f64 - right[i]) / deviations[i] * (DRAWS as f64).sqrt();
+            assert!(off.abs() < 5.0, "number {i} is off by {off} standard deviations");
+        }
     }
 }

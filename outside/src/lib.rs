@@ -1,6 +1,8 @@
 //! What the programs of this crate share.
 
+pub mod channel;
 pub mod draw;
+pub mod error_rates;
 pub mod reference;
 
 /// The positions where two words of the same length differ.

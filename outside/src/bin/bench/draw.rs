@@ -1,5 +1,6 @@
-//! What the calls are timed on, drawn from fixed seeds.
+//! What the calls are timed on, drawn from a fixed seed.
 use bch_receiver::{encode, Code};
+use outside::draw::Draw;
 
 /// How strong the noise is: the sum of so many draws of -1, 0 and 1, where a bit is sent as the level 8 or -8.
 #[derive(Clone, Copy)]
@@ -29,55 +30,36 @@ impl<T> Words<T> {
     }
 }
 
-/// A 32-bit xorshift.
-struct Draw(u32);
+const SEED: u64 = 1;
 
-impl Draw {
-    /// Picked so that the noise makes about as many errors, and words with more than t of them, as are to be expected.
-    const NOISY: Draw = Draw(13844);
+fn codeword(draw: &mut Draw, code: Code) -> Vec<u8> {
+    let mut message = vec![0; code.n - code.m * code.t];
+    let mut codeword = vec![0; code.n];
+    draw.bits(&mut message);
+    encode(code, &message, &mut codeword).expect("a message of the code");
+    codeword
+}
 
-    fn next(&mut self) -> u32 {
-        self.0 ^= self.0 << 13;
-        self.0 ^= self.0 >> 17;
-        self.0 ^= self.0 << 5;
-        self.0
-    }
-
-    fn below(&mut self, end: usize) -> usize {
-        self.next() as usize % end
-    }
-
-    fn bit(&mut self) -> u8 {
-        self.below(2) as u8
-    }
-
-    fn codeword(&mut self, code: Code) -> Vec<u8> {
-        let message: Vec<u8> = (code.m * code.t..code.n).map(|_| self.bit()).collect();
-        let mut codeword = vec![0; code.n];
-        encode(code, &message, &mut codeword).expect("a message of the code");
-        codeword
-    }
-
-    /// The symbol that a bit becomes.
-    fn symbol(&mut self, bit: u8, noise: Noise) -> u8 {
-        let sent = if bit == 1 { -8 } else { 8 };
-        let level = (0..noise.draws).fold(sent, |level, _| level + self.below(3) as i32 - 1);
-        16 * u8::from(level < 0) + level.abs().min(15) as u8
-    }
+/// The symbol that a bit becomes.
+fn symbol(draw: &mut Draw, bit: u8, noise: Noise) -> u8 {
+    let sent = if bit == 1 { -8 } else { 8 };
+    let level = (0..noise.draws).fold(sent, |level, _| level + draw.below(3) as i32 - 1);
+    16 * u8::from(level < 0) + level.abs().min(15) as u8
 }
 
 pub fn messages(code: Code, count: usize) -> Words<u8> {
-    let mut draw = Draw::NOISY;
     let length = code.n - code.m * code.t;
-    Words { length, all: (0..count * length).map(|_| draw.bit()).collect() }
+    let mut all = vec![0; count * length];
+    Draw::new(SEED).bits(&mut all);
+    Words { length, all }
 }
 
 /// Codewords with that many wrong bits in each.
 pub fn wrong_words(code: Code, errors: usize, count: usize) -> Words<u8> {
-    let mut draw = Draw::NOISY;
+    let mut draw = Draw::new(SEED);
     let mut all = Vec::new();
     for _ in 0..count {
-        let sent = draw.codeword(code);
+        let sent = codeword(&mut draw, code);
         let mut word = sent.clone();
         while sent.iter().zip(&word).filter(|(a, b)| a != b).count() < errors {
             word[draw.below(code.n)] ^= 1;
@@ -89,11 +71,11 @@ pub fn wrong_words(code: Code, errors: usize, count: usize) -> Words<u8> {
 
 /// Words of noisy symbols.
 pub fn noisy_words(code: Code, noise: Noise, count: usize) -> Words<u8> {
-    let mut draw = Draw::NOISY;
+    let mut draw = Draw::new(SEED);
     let mut all = Vec::new();
     for _ in 0..count {
-        let codeword = draw.codeword(code);
-        all.extend(codeword.into_iter().map(|bit| draw.symbol(bit, noise)));
+        let sent = codeword(&mut draw, code);
+        all.extend(sent.into_iter().map(|bit| symbol(&mut draw, bit, noise)));
     }
     Words { length: code.n, all }
 }
@@ -115,12 +97,12 @@ pub fn take(code: Code, depth: usize, label: usize, words: &Words<u8>) -> Vec<u8
 
 /// Levels from -17 to 17; some are whole numbers.
 pub fn levels(length: usize, count: usize) -> Words<f32> {
-    let mut draw = Draw(15);
-    Words { length, all: (0..count * length).map(|_| ((draw.next() >> 16) as f32 - 32768.0) / 1927.0).collect() }
+    let mut draw = Draw::new(SEED);
+    Words { length, all: (0..count * length).map(|_| (draw.below(65536) as f32 - 32768.0) / 1927.0).collect() }
 }
 
 /// Kinds of samples: all heard, or half of them blank.
 pub fn kinds(blanks: bool, length: usize, count: usize) -> Words<u8> {
-    let mut draw = Draw(11);
+    let mut draw = Draw::new(SEED);
     Words { length, all: (0..count * length).map(|_| if blanks { draw.bit() } else { 1 }).collect() }
 }
