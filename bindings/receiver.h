@@ -1,6 +1,6 @@
 /*
  * A soft-decision receiver of binary BCH codes, for C and C++. The calls are in libreceiver_c.a (tools/archive makes it); example.c shows
- * each of them. They are proved, for all inputs, to answer as docs/01-scope.md tells.
+ * each of them. They are proved, for all inputs, to answer as docs/01-scope.md says; the functions here that read an answer are tested.
  *
  * A code is named by m (the field has 2^m elements, m 5 to 8), t (1 to 3 flips are repaired) and n (the length). It has m t parity bits,
  * k = n - m t message bits, and n is m t + 1 to 2^m - 1. A bit is one byte, 0 or 1. A symbol is one byte: 16 times the bit plus a
@@ -9,7 +9,7 @@
  * Any values may be handed in, and a buffer of any length: a call answers, or it refuses and writes nothing. An answer is one number of
  * 64 bits, from which the functions below read what it says.
  *
- * The caller owes what no compiler checks in C:
+ * The caller must see to what no C compiler checks:
  * - each pointer is valid for as many elements as the length behind it says, and a `const float *` is aligned as a float is;
  * - a buffer that is written overlaps no other buffer of the call. Those that are only read may overlap;
  * - RECEIVER_STACK bytes of stack are free.
@@ -28,7 +28,7 @@
 extern "C" {
 #endif
 
-/* Stack that is enough for any call, in bytes. stack.c measures what each call takes, and fails where that is more. */
+/* Enough stack for any call, in bytes. stack.c measures what each call takes, and fails where that is more. */
 #define RECEIVER_STACK 32768
 
 /* The mark of a word in the soft stage's answer, and its byte in a take that was read. */
@@ -45,8 +45,8 @@ enum {
     RECEIVER_REFUSED_N = 3,                 /* n is outside m t + 1 to 2^m - 1 */
     RECEIVER_REFUSED_DEPTH = 4,             /* the depth is above 6 */
     RECEIVER_REFUSED_LADDER = 5,            /* the edges are not fifteen, the first above zero and each above the one before */
-    RECEIVER_REFUSED_INPUT_LENGTH = 6,      /* an input has not the length that the call needs */
-    RECEIVER_REFUSED_OUTPUT_LENGTH = 7,     /* an output has not exactly the length that the call writes */
+    RECEIVER_REFUSED_INPUT_LENGTH = 6,      /* an input does not have the length that the call needs */
+    RECEIVER_REFUSED_OUTPUT_LENGTH = 7,     /* an output does not have exactly the length that the call writes */
     RECEIVER_REFUSED_BIT = 8,               /* a bit is above 1; place: its position in its input */
     RECEIVER_REFUSED_SYMBOL = 9,            /* a symbol is above 31; place: its position, or its byte offset from a take's start */
     RECEIVER_REFUSED_KIND = 10,             /* a kind is above 1; place: its position */
@@ -61,7 +61,7 @@ enum {
 /*
  * Writes the codeword that carries a message: parity at positions 0 to m t - 1, the message behind it.
  * Takes k message bits; writes n bits.
- * Answers 0, or refuses by the first of 1, 2, 3, 6, 7, 8 that holds; `codeword` is then as it was.
+ * Answers 0, or refuses with the first of 1, 2, 3, 6, 7, 8 that applies; `codeword` is then as it was.
  */
 uint64_t receiver_encode(size_t m, size_t t, size_t n, const uint8_t *message, size_t message_length, uint8_t *codeword,
                          size_t codeword_length);
@@ -69,7 +69,8 @@ uint64_t receiver_encode(size_t m, size_t t, size_t n, const uint8_t *message, s
 /*
  * The hard stage: writes the codeword that differs from a word in at most t positions, where there is one.
  * Takes n bits; writes n bits.
- * Answers found, with the flips, or lost; or refuses by the first of 1, 2, 3, 6, 7, 8 that holds. Lost or refused, `codeword` is as it was.
+ * Answers found, with the flips, or lost; or refuses with the first of 1, 2, 3, 6, 7, 8 that applies. Lost or refused, `codeword` is as it
+ * was.
  *
  *     byte 0      1 found, 0 lost     receiver_found
  *     byte 1      the flips           receiver_flips
@@ -79,8 +80,9 @@ uint64_t receiver_decode_hard(size_t m, size_t t, size_t n, const uint8_t *bits,
 
 /*
  * The soft stage: tries every flip of the `depth` least reliable bits by the hard stage, until a codeword is sure, and writes the nearest
- * codeword that it finds. Takes n symbols, depth 0 to 6; writes n bits.
- * Answers a mark with its numbers, or refuses by the first of 1, 2, 3, 4, 6, 7, 9 that holds. Lost or refused, `codeword` is as it was.
+ * codeword that it finds. Of equally reliable bits the lower position counts as the weaker, and of equally near codewords the first is
+ * taken. Takes n symbols, depth 0 to 6; writes n bits.
+ * Answers a mark with its numbers, or refuses with the first of 1, 2, 3, 4, 6, 7, 9 that applies. Lost or refused, `codeword` is as it was.
  * All numbers of a lost word but its tries are 0.
  *
  *     byte 0      the mark                                                        receiver_mark
@@ -90,14 +92,15 @@ uint64_t receiver_decode_hard(size_t m, size_t t, size_t n, const uint8_t *bits,
  *     bytes 4-5   the distance: the reliabilities of the changed bits, added up   receiver_distance
  *     bytes 6-7   32768 + the margin                                              receiver_margin
  *
- * Every other codeword has at least the distance plus the margin. A margin of 0 or more is sure.
+ * Every other codeword has at least the distance plus the margin, and a codeword found is sure exactly where its margin is 0 or more. The
+ * margin of a lost word is 0 too: look at the mark first.
  */
 uint64_t receiver_decode_soft(size_t m, size_t t, size_t n, size_t depth, const uint8_t *symbols, size_t symbols_length,
                               uint8_t *codeword, size_t codeword_length);
 
 /*
  * Checks a ladder: fifteen edges, the first above zero and each above the one before.
- * Answers 0, or refuses by 5. Writes nothing.
+ * Answers 0, or refuses with 5. Writes nothing.
  */
 uint64_t receiver_check_ladder(const float *edges, size_t edges_length);
 
@@ -106,17 +109,17 @@ uint64_t receiver_check_ladder(const float *edges, size_t edges_length);
  * level is not looked at. A heard level below zero gives bit 1, otherwise bit 0; its reliability is the number of edges that are at most
  * its magnitude. Levels may be infinite.
  * Takes fifteen edges, and equally many kinds and levels; writes as many symbols.
- * Answers 0, or refuses by the first of 5, 6, 7 that holds, and then by 10 or 11 of the first sample that has a fault, where a kind
+ * Answers 0, or refuses with the first of 5, 6, 7 that applies, and then with 10 or 11 for the first sample that has a fault, where a kind
  * above 1 gives 10 whatever the level; `symbols` is then as it was.
  */
 uint64_t receiver_quantise(const float *edges, size_t edges_length, const uint8_t *kinds, size_t kinds_length, const float *levels,
                            size_t levels_length, uint8_t *symbols, size_t symbols_length);
 
 /*
- * Checks a take whole and answers what its header says. A take is a measuring round of many words. Its bytes, two-byte numbers with the
- * low byte first: 0-1 the word count W, 2 m, 3 t, 4-5 n, 6 the depth, 7 zero, 8-9 where the words begin, 10-11 the length of the label;
- * then the label (any bytes), and W times n symbols.
- * Refuses by the first of 12, 13, 1, 2, 3, 4, 14, 9 that holds. Writes nothing.
+ * Checks a take whole and answers what its header says of its words. A take is a measuring round of many words. Its bytes, two-byte
+ * numbers with the low byte first: 0-1 the word count W, 2 m, 3 t, 4-5 n, 6 the depth, 7 zero, 8-9 where the words begin, 10-11 the
+ * length of the label; then the label (any bytes), and W times n symbols.
+ * Refuses with the first of 12, 13, 1, 2, 3, 4, 14, 9 that applies. Writes nothing.
  *
  *     byte 0      0
  *     bytes 1-2   W           receiver_take_words
@@ -130,7 +133,7 @@ uint64_t receiver_open_take(const uint8_t *take, size_t take_length);
 /*
  * Reads a take: each of its words goes to the soft stage at the take's depth.
  * Writes W k message bits, word after word, and W marks. The message bits of a lost word are 0.
- * Answers the totals, or refuses by the first of 12, 13, 1, 2, 3, 4, 14, 7, 9 that holds; `messages` and `marks` are then as they were.
+ * Answers the totals, or refuses with the first of 12, 13, 1, 2, 3, 4, 14, 7, 9 that applies; `messages` and `marks` are then as they were.
  *
  *     byte 0      0
  *     bytes 1-2   how many words are sure     receiver_total_sure

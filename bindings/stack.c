@@ -80,7 +80,7 @@ static void measure(struct call *call)
     pthread_attr_destroy(&attributes);
 }
 
-/* A message, its codeword, and the codeword with wrong bits, of which each has another reliability. */
+/* A message, its codeword, and the codeword with wrong bits among those that are less reliable. */
 static void fill(size_t wrong)
 {
     const uint8_t header[HEADER] = {1, 0, (uint8_t)m, (uint8_t)t, (uint8_t)n, 0, DEPTH, 0, HEADER};
@@ -119,6 +119,6 @@ int main(void)
         if (calls[i].most > most)
             most = calls[i].most;
     }
-    printf("%zu bytes at the most, and %d are told\n", most, RECEIVER_STACK);
+    printf("%zu bytes at the most; RECEIVER_STACK is %d\n", most, RECEIVER_STACK);
     return most > RECEIVER_STACK;
 }

@@ -1,4 +1,4 @@
-//! Tells the linker where the archive of the proved calls is: in the folder that RECEIVER_ARCHIVE names, otherwise where
+//! Says to the linker where the archive of the proved calls is: in the folder that RECEIVER_ARCHIVE names by its absolute path, otherwise where
 //! `tools/archive` writes it.
 use std::{env, path::PathBuf};
 
@@ -8,6 +8,7 @@ fn main() {
         Some(folder) => PathBuf::from(folder),
         None => PathBuf::from(env::var_os("CARGO_MANIFEST_DIR").unwrap()).join("../../target/staticlib"),
     };
+    assert!(folder.is_absolute(), "RECEIVER_ARCHIVE is not an absolute path: {}", folder.display());
     let archive = folder.join("libreceiver_c.a");
     println!("cargo:rerun-if-changed={}", archive.display());
     if !archive.exists() {

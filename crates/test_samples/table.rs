@@ -8,7 +8,7 @@ const NAN: f32 = f32::NAN;
 
 // Fifteen edges, the first above zero and each above the one before: 5 otherwise.
 fn refused_ladder(edges: &[f32]) -> Option<(usize, usize)> {
-    let first_above = edges.first().is_some_and(|first| *first > 0.0);
+    let first_above = edges.first().map_or(false, |first| *first > 0.0);
     let rising = edges.windows(2).all(|pair| pair[1] > pair[0]);
     if edges.len() == 15 && first_above && rising { None } else { Some((5, 0)) }
 }

@@ -220,8 +220,9 @@ pub fn answer(code: &Code, depth: usize, symbols: &[u8]) -> Answer {
     let bits: Vec<u8> = symbols.iter().map(|s| s / 16).collect();
     let z: Vec<i64> = symbols.iter().map(|s| (s % 16) as i64).collect();
     let all = candidates(code, depth, &bits, &z);
-    let Some((chosen, sure)) = choose(&all) else {
-        return Answer { mark: "lost", distance: 0, margin: 0, flips: 0, place: 0, tries: 1 << depth, codeword: None, all };
+    let (chosen, sure) = match choose(&all) {
+        Some(choice) => choice,
+        None => return Answer { mark: "lost", distance: 0, margin: 0, flips: 0, place: 0, tries: 1 << depth, codeword: None, all },
     };
     let c = &all[chosen];
     Answer {

@@ -168,7 +168,10 @@ fn note(kinds: &mut Kinds, t: usize, depth: usize, symbols: &[u8], answer: &Answ
     kinds.weak_ties += (depth > 0 && depth < z.len() && z[depth - 1] == z[depth]) as usize;
     let back = |c: &Candidate| (0..bits.len()).any(|i| c.test[i] != bits[i] && c.codeword[i] == bits[i]);
     kinds.flipped_back += answer.all.iter().any(back) as usize;
-    let Some((chosen, sure)) = choose(&answer.all) else { return };
+    let (chosen, sure) = match choose(&answer.all) {
+        Some(choice) => choice,
+        None => return,
+    };
     let c = &answer.all[chosen];
     let tied = |o: &Candidate| o.distance == c.distance && o.codeword != c.codeword;
     kinds.late_sure += (sure && c.place > 0) as usize;

@@ -2,7 +2,7 @@
 //! takes, which are measuring rounds of many words. The calls are written in Rattle, a language in which every function is proved to
 //! meet its contract, and stand in the archive `libreceiver_c.a`; this crate passes them on.
 //!
-//! For all inputs, of whatever bytes and lengths, a call answers as `docs/01-scope.md` of the repository tells, or refuses with a number
+//! For all inputs, of whatever bytes and lengths, a call answers as `docs/01-scope.md` of the repository says, or refuses with a number
 //! and a place and writes nothing. In a take that is read, a word marked *sure* has no nearer codeword in the whole code, one marked
 //! *fair* has none among those that the search could reach, and one is *lost* only where the search could reach none.
 //!
@@ -11,7 +11,8 @@
 //! # Building
 //!
 //! `tools/archive` makes the archive, and then `cargo test` in this folder is enough. The crate is linked with the archive in the folder
-//! that the variable `RECEIVER_ARCHIVE` names, otherwise with that in `target/staticlib` of the repository.
+//! that the variable `RECEIVER_ARCHIVE` names by its absolute path, otherwise with that in `target/staticlib` of the repository. The
+//! archive is for x86-64 with ELF.
 //!
 //! # Example
 //!
@@ -38,7 +39,7 @@
 
 use std::fmt;
 
-/// The calls of the archive, as `bindings/receiver.h` declares them. A slice is a pointer and a length. The caller owes that each pointer
+/// The calls of the archive, as `bindings/receiver.h` declares them. A slice is a pointer and a length. The caller sees to it that each pointer
 /// is valid for its length, and that a buffer that is written overlaps no other of the call; a call keeps no pointer. It answers one
 /// number, whose lowest byte is 128 or more for a refusal.
 mod raw {
@@ -166,7 +167,7 @@ fn answered(number: u64) -> Result<u64, Refusal> {
 
 /// Writes the codeword that carries a message of k bits: parity at positions 0 to m t - 1, the message behind it.
 ///
-/// Refuses by the first of 1, 2, 3, 6, 7, 8 that holds.
+/// Refuses with the first of 1, 2, 3, 6, 7, 8 that applies.
 ///
 /// ```
 /// use bch_receiver::{encode, Code, Refusal};
@@ -197,7 +198,7 @@ pub enum Hard {
 
 /// Writes the codeword within t flips of n bits, where there is one.
 ///
-/// Refuses by the first of 1, 2, 3, 6, 7, 8 that holds.
+/// Refuses with the first of 1, 2, 3, 6, 7, 8 that applies.
 ///
 /// ```
 /// use bch_receiver::{decode_hard, Code, Hard};
@@ -218,7 +219,7 @@ pub fn decode_hard(code: Code, bits: &[u8], codeword: &mut [u8]) -> Result<Hard,
     })
 }
 
-/// How the receiver holds a word.
+/// How far the receiver trusts a word.
 #[derive(Clone, Copy, Debug, PartialEq, Eq)]
 pub enum Mark {
     /// The search found no codeword.
@@ -302,7 +303,7 @@ impl Soft {
 /// plus its reliability, 0 to 15. The search tries the 2^depth test words, in which the least reliable bits are as received or
 /// flipped, until a codeword is sure.
 ///
-/// Refuses by the first of 1, 2, 3, 4, 6, 7, 9 that holds.
+/// Refuses with the first of 1, 2, 3, 4, 6, 7, 9 that applies.
 ///
 /// ```
 /// use bch_receiver::{decode_soft, Code, Found, Soft};
@@ -341,7 +342,7 @@ pub struct Ladder {
 }
 
 impl Ladder {
-    /// The ladder of these edges. Refuses by 5 where they are none.
+    /// The ladder of these edges. Refuses with 5 where they are none.
     pub fn new(edges: &[f32]) -> Result<Ladder, Refusal> {
         // Safety: pointer and length are those of a slice.
         let number = unsafe { raw::receiver_check_ladder(edges.as_ptr(), edges.len()) };
@@ -354,7 +355,7 @@ impl Ladder {
     /// Writes the symbol of each sample, given by its kind (0 blank, 1 heard) and its level. A blank gives the symbol 0. A heard level
     /// below zero gives bit 1, otherwise bit 0, and its reliability is the number of edges that are at most its magnitude.
     ///
-    /// Refuses by 6 or 7, whichever holds first, and then by 10 or 11 of the first sample that has a fault.
+    /// Refuses with 6 or 7, whichever applies first, and then with 10 or 11 for the first sample that has a fault.
     ///
     /// ```
     /// # fn main() -> Result<(), bch_receiver::Refusal> {
@@ -370,7 +371,7 @@ impl Ladder {
     }
 }
 
-/// Writes the symbol of each sample by the ladder of these edges, as [`Ladder::quantise`] does. Refuses by 5 first where the edges are no
+/// Writes the symbol of each sample by the ladder of these edges, as [`Ladder::quantise`] does. Refuses with 5 first where the edges are no
 /// ladder.
 ///
 /// ```
@@ -410,7 +411,7 @@ pub struct Header {
 /// 2 m, 3 t, 4-5 n, 6 the depth, 7 zero, 8-9 where the words begin, 10-11 the length of the label; then the label (any bytes), and W
 /// times n symbols.
 ///
-/// Refuses by the first of 12, 13, 1, 2, 3, 4, 14, 9 that holds.
+/// Refuses with the first of 12, 13, 1, 2, 3, 4, 14, 9 that applies.
 ///
 /// ```
 /// use bch_receiver::{open_take, Code, Header};
@@ -446,7 +447,7 @@ pub struct Totals {
 /// Reads a take into lent buffers: writes k message bytes for each of its W words (0 where the word is lost), and a mark byte, 0 lost, 1
 /// fair, 2 sure. [`read`] does the same with buffers of its own.
 ///
-/// Refuses by the first of 12, 13, 1, 2, 3, 4, 14, 7, 9 that holds; 7 where the buffers do not have exactly W k and W bytes.
+/// Refuses with the first of 12, 13, 1, 2, 3, 4, 14, 7, 9 that applies; 7 where the buffers do not have exactly W k and W bytes.
 ///
 /// ```
 /// use bch_receiver::{read_take, Totals};

@@ -2,11 +2,13 @@
 use Prim.Native.Nat.{ℕ, _+_, _-_, _/_, _%_, _^_, _<_}
 use native.Mathlib.Omega.{arith}
 use mathlib.Core.Path.{_≡_}
+use mathlib.Core.Logic.{inr}
+use mathlib.Core.Option.{none, some}
 use Rattle.chase.specs.Soft.{Mark, lost, fair, sure, Answer}
 use Rattle.take_format.specs.Refusal.{Refusal}
 use Rattle.take_format.specs.Batch.{markByte, Totals}
 use Rattle.take_format.specs.Take.{Header}
-use Rattle.receiver_c.specs.Packed.{refusalPacked, marginPacked, answerPacked, headerPacked, totalsPacked}
+use Rattle.receiver_c.specs.Packed.{refusalPacked, hardPacked, marginPacked, answerPacked, headerPacked, totalsPacked}
 use Rattle.receiver_c.proofs.Raised.{margin-lt}
 use Rattle.receiver_c.proofs.Sizes.{Room}
 
@@ -23,6 +25,24 @@ module _ (r : Refusal) (small : r .number < 128) where
   pub refusal-bits : refusalPacked r < 2 ^ 64
   unfolding refusalPacked
   refusal-bits = omega arith
+
+-- an answer of the hard stage
+pub hard-lost : hardPacked (inr none) % 2 ^ 8 ≡ 0
+unfolding hardPacked
+hard-lost = omega arith
+
+module _ (q : ℕ) (small : q < 256) where
+  pub hard-found : hardPacked (inr (some q)) % 2 ^ 8 ≡ 1
+  unfolding hardPacked
+  hard-found = omega arith
+
+  pub hard-flips : hardPacked (inr (some q)) / 2 ^ 8 ≡ q
+  unfolding hardPacked
+  hard-flips = omega arith
+
+  pub hard-bits : hardPacked (inr (some q)) < 2 ^ 64
+  unfolding hardPacked
+  hard-bits = omega arith
 
 -- an answer of the soft stage
 mark-lt : (m : Mark) → markByte m < 3
@@ -94,6 +114,10 @@ module _ (h : Header) (words : h .words < 65536) (n : h .code .n < 65536) (m : h
   unfolding headerPacked
   header-depth = omega arith
 
+  pub header-bits : h .depth < 256 → headerPacked h < 2 ^ 64
+  unfolding headerPacked
+  header-bits d = omega arith
+
 -- the totals of a take
 module _ (k : Totals) (room : (k .sures < 65536) × (k .fairs < 65536) × (k .tries < 16777216)) where
   pub totals-zero : totalsPacked k % 2 ^ 8 ≡ 0
@@ -111,3 +135,7 @@ module _ (k : Totals) (room : (k .sures < 65536) × (k .fairs < 65536) × (k .tr
   pub totals-tries : k .tries ≡ totalsPacked k / 2 ^ 40
   unfolding totalsPacked
   totals-tries = omega (arith, room .0, room .1)
+
+  pub totals-bits : totalsPacked k < 2 ^ 64
+  unfolding totalsPacked
+  totals-bits = omega (arith, room .0, room .1, room .2)

@@ -22,7 +22,7 @@ const QUICK: Limit = Limit { word_errors: 100, bits: 1_000_000 };
 /// a somewhat smaller step and the short words a somewhat larger one, and around this one the rates of all four change little.
 const STEP: f32 = 0.0625;
 
-/// Where steps of the ladder are compared: at depth 4 and 6 the bit error rate is about 1e-4 there, or some times less.
+/// Where steps of the ladder are compared: at depth 4 and 6 the bit error rate is between 1e-5 and 2e-4 there.
 const STEP_POINTS: [(Code, f64); 4] = [(RANGES[0].0, 5.0), (RANGES[1].0, 5.0), (RANGES[2].0, 6.0), (RANGES[3].0, 5.5)];
 
 /// The bit error rate at which decoders are compared.
@@ -139,7 +139,7 @@ fn tables(rows: &[Row]) -> String {
             tries,
         ),
         table(
-            "The same at the point where nearest to 0.8 percent of the bits arrive wrong",
+            "The same at the point where the share of bits that arrive wrong is, by its logarithm, nearest to 0.8 percent",
             rows,
             &[&DECODERS[..1], soft].concat(),
             saving,

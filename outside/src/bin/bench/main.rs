@@ -1,5 +1,6 @@
 //! Prints one table: how long the receiver's calls take, and beside them what may be used in their place, on the same inputs. Where one
-//! of these answers otherwise than the receiver, the program says so and ends with status 1.
+//! of these answers otherwise than the receiver, the program says so and ends with status 1. (Not compared are the textbook's tries, and
+//! IT++ on words with more than t errors.)
 mod c;
 mod calls;
 mod draw;
@@ -42,11 +43,13 @@ fn print_setting() {
     println!("{}; {}; {}, -O3; {}.", processor(), env!("BENCH_RUSTC"), env!("BENCH_CC"), env!("BENCH_ITPP"));
     println!(
         "Nanoseconds of processor time for a word (quantise: a sample; takelist: of real time for a byte of the take, its\n\
-         start included): the least of up to {} rounds, in which the columns take turns. In brackets: times the receiver's.\n\
+         start included): the least of up to {} rounds, in which the columns take turns (takelist: of 100 runs). In brackets: times the receiver's.\n\
+         Light noise turns 0.9 percent of the bits, heavy noise 2.8 percent: 2.2 and 7.1 bits in 255.\n\
          Rust: outside/src/reference.rs, made to be plain. Textbook C, C: outside/c/core.c, the faster of two builds.\n\
-         C decodes as the receiver does, but checks nothing and has its tables before the clock starts, as Rust and\n\
-         IT++ have; the receiver checks its inputs and fills its tables in each call. The buffers are not cleared\n\
-         between calls.",
+         C decodes as the receiver does (for t = 3 by another pair of tables, and its quantiser makes four comparisons\n\
+         where the receiver makes fifteen), checks nothing, and has its tables before the clock starts, as Rust and IT++\n\
+         have. The receiver checks its inputs and fills its tables in each call but encode. IT++'s time includes turning\n\
+         the words into its order. The buffers are not cleared between calls.",
         SWEEPS * row::ROUNDS
     );
     if takelist::program().is_none() {
