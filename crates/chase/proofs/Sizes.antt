@@ -76,7 +76,8 @@ test-flips j (w ∷ ws) xs =
 
 -- ---- the answer
 
-mag-sub : (a b most : ℕ) → a < most → b ≤ most → mag (subℕ a b) < most
+-- a difference of two small numbers is small
+pub mag-sub : (a b most : ℕ) → a < most → b ≤ most → mag (subℕ a b) < most
 mag-sub a b most ha hb =
     elim (decLt a b) [
       | yes h ↦ rw (lt-ltb a b h) (omega arith)

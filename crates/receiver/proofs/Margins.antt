@@ -2,21 +2,18 @@
 -- Assumes nothing.
 use Prim.Native.Nat.{ℕ, zero, suc, _<_}
 use native.Mathlib.Omega.{arith}
-use native.Mathlib.Decide.{decLt}
 use mathlib.Core.Path.{_≡_, refl, ap}
-use borrow.Author.Tests.{lt-ltb, le-ltb}
+use borrow.Author.Needs.{sfits-of}
+use borrow.Author.Tests.{le-ltb}
 use lib.IntN.{pos, subℕ, _-ℤ_}
 use mir.Syntax.{w32}
 use mir.Val.{SFits, toZ}
 use mir.Facts.{toZ-pos}
+use Rattle.chase.proofs.Sizes.{mag-sub}
 
 -- the difference fits
 pub sub-sfits : (a b : ℕ) → a < 65536 → b < 65536 → SFits w32 (subℕ a b)
-sub-sfits a b ha hb =
-    elim (decLt a b) [
-      | yes h ↦ rw (lt-ltb a b h) (record { sfits = omega arith })
-      | no h ↦ rw (le-ltb a b (omega arith)) (record { sfits = omega arith })
-    ]
+sub-sfits a b ha hb = sfits-of (omega (arith, mag-sub a b 65536 ha (omega arith)))
 
 diff : (a b : ℕ) → pos a -ℤ pos b ≡ subℕ a b
 diff a zero = rw (le-ltb a 0 (omega arith)) (ap pos (omega arith))

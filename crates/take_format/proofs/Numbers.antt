@@ -12,7 +12,7 @@ use Rattle.bch.specs.Code.{Code, parityLength, wordLength, messageLength}
 use Rattle.take_format.specs.Refusal.{Refusal, refused, unless, unlessAtMost, firstOf, settings, depthCheck, inputLength, outputLength, bitBytes, symbolBytes, bitsCheck, bitsRefusal, symbolsCheck, softRefusal}
 use Rattle.take_format.specs.Samples.{isLadder, ladderCheck, samplesCheck, samplesRefusal}
 use Rattle.take_format.specs.Take.{header, headerRefusal, takeSymbolsCheck, openRefusal, takeRefusal}
-use Rattle.take_format.proofs.RefusalLaws.{some-not-none, IfRefused, AllSo, first-so, both-so}
+use Rattle.take_format.proofs.RefusalLaws.{some-not-none, IfRefused, AllSo, first-so, both-so, unless-refused, bytes-refused}
 
 abbrev pub Numbered : Refusal → Type 0
 Numbered r = (1 ≤ r .number) × (r .number ≤ 14)
@@ -20,19 +20,10 @@ Numbered r = (1 ≤ r .number) × (r .number ≤ 14)
 -- ---- one check
 
 numbered-unless : (k : ℕ) (b : Bool) → 1 ≤ k → k ≤ 14 → IfRefused Numbered (unless k b)
-unfolding unless
-numbered-unless k true l h r e = some-not-none r (sym e)
-numbered-unless k false l h r e = let z : r .number ≡ k = cc in (omega arith, omega arith)
+numbered-unless k b l h r e = let n = unless-refused k b r e .0 in (omega (arith, n), omega (arith, n))
 
 numbered-bytes : (k most at : ℕ) (xs : List ℕ) → 1 ≤ k → k ≤ 14 → IfRefused Numbered (unlessAtMost k most at xs)
-unfolding unlessAtMost
-numbered-bytes k most at [] l h r e = some-not-none r (sym e)
-numbered-bytes k most at (x ∷ xs) l h r e = go (leb x most) e (numbered-bytes k most (suc at) xs l h)
-  where
-    go : (b : Bool) → elim b [ true ↦ unlessAtMost k most (suc at) xs | false ↦ refused k at ] ≡ some r
-        → IfRefused Numbered (unlessAtMost k most (suc at) xs) → Numbered r
-    go true e f = f r e
-    go false e f = let z : r .number ≡ k = cc in (omega arith, omega arith)
+numbered-bytes k most at xs l h r e = let n = bytes-refused k most at xs r e .0 in (omega (arith, n), omega (arith, n))
 
 -- ---- the checks of the calls
 

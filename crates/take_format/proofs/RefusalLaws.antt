@@ -254,6 +254,25 @@ module _ (P : Refusal → Type 0) where
   both-so [] ps a b = b
   both-so (o ∷ os) ps a b = (a .0, both-so os ps (a .1) b)
 
+-- a test refuses with its number, at place 0
+pub unless-refused : (k : ℕ) (b : Bool) → IfRefused (λ (r : Refusal). (r .number ≡ k) × (r .place ≡ 0)) (unless k b)
+unfolding unless
+unless-refused k true r e = some-not-none r (sym e)
+unless-refused k false r e = (cc, cc)
+
+-- bytes are refused with their check's number, among them
+pub bytes-refused : (k most at : ℕ) (xs : List ℕ)
+    → IfRefused (λ (r : Refusal). (r .number ≡ k) × (r .place ≤ at + length xs)) (unlessAtMost k most at xs)
+unfolding unlessAtMost
+bytes-refused k most at [] r e = some-not-none r (sym e)
+bytes-refused k most at (x ∷ xs) r e = go (leb x most) e (bytes-refused k most (suc at) xs)
+  where
+    go : (b : Bool) → elim b [ true ↦ unlessAtMost k most (suc at) xs | false ↦ refused k at ] ≡ some r
+        → IfRefused (λ (r : Refusal). (r .number ≡ k) × (r .place ≤ suc at + length xs)) (unlessAtMost k most (suc at) xs)
+        → (r .number ≡ k) × (r .place ≤ at + length (x ∷ xs))
+    go true e f = let (n, p) = f r e in (n, omega (arith, p))
+    go false e f = let z : r .place ≡ at = cc in (cc, omega arith)
+
 -- ---- the place of a refusal
 
 -- where it is refused at all, then at a place that is not beyond
@@ -261,19 +280,7 @@ abbrev Within : ℕ → Option Refusal → Type 0
 Within most o = IfRefused (λ (r : Refusal). r .place ≤ most) o
 
 within-unless : (most k : ℕ) (b : Bool) → Within most (unless k b)
-unfolding unless
-within-unless most k true r e = some-not-none r (sym e)
-within-unless most k false r e = let z : r .place ≡ 0 = cc in omega arith
-
-within-bytes : (k most at : ℕ) (xs : List ℕ) → Within (at + length xs) (unlessAtMost k most at xs)
-unfolding unlessAtMost
-within-bytes k most at [] r e = some-not-none r (sym e)
-within-bytes k most at (x ∷ xs) r e = go (leb x most) e (within-bytes k most (suc at) xs)
-  where
-    go : (b : Bool) → elim b [ true ↦ unlessAtMost k most (suc at) xs | false ↦ refused k at ] ≡ some r
-        → Within (suc at + length xs) (unlessAtMost k most (suc at) xs) → r .place ≤ at + length (x ∷ xs)
-    go true e f = omega (arith, f r e)
-    go false e f = let z : r .place ≡ at = cc in omega arith
+within-unless most k b r e = omega (arith, unless-refused k b r e .1)
 
 -- the soft stage's, not beyond its symbols
 pub soft-within : (c : Code) (p : ℕ) (symbols codeword : List ℕ) → Within (length symbols) (softRefusal c p symbols codeword)
@@ -282,7 +289,7 @@ soft-within c p symbols codeword =
     let most = length symbols in
     let near : Refusal → Type 0 = λ r. r .place ≤ most in
     let n = wordLength c in
-    let bytes : Within most (unlessAtMost 9 31 0 symbols) = λ r e. omega (arith, within-bytes 9 31 0 symbols r e) in
+    let bytes : Within most (unlessAtMost 9 31 0 symbols) = λ r e. omega (arith, bytes-refused 9 31 0 symbols r e .1) in
     let word = depthCheck p ∷ inputLength n (length symbols) ∷ outputLength n (length codeword) ∷ symbolBytes 0 symbols ∷ [] in
     let named : AllSo near (settings c) = (within-unless most 1 (leb 5 (c .m) && leb (c .m) 8), (within-unless most 2 (leb 1 (c .t) && leb (c .t) 3), (within-unless most 3 (leb (parityLength c + 1) (c .n) && leb (c .n) (2 ^ c .m - 1)), tt))) in
     let later : AllSo near word = (within-unless most 4 (leb p 6), (within-unless most 6 (eqb (length symbols) n), (within-unless most 7 (eqb (length codeword) n), (bytes, tt)))) in

@@ -1,0 +1,138 @@
+-- The hard stage's answer from the positions that are located by logarithms for a word's packed syndromes, of which only the first t
+-- are asked for: lost where none are found, and otherwise the word flipped at them. Assumes nothing but what the list is asked to hold.
+use Prim.Native.Nat.{ℕ, _^_, _≤_, _<_}
+use mathlib.Core.Path.{_≡_, refl, sym, ap, _∙_}
+use mathlib.Core.Logic.{_↔_}
+use mathlib.Core.Bool.{Bool, true, false}
+use mathlib.Core.List.{List}
+use mathlib.Core.Option.{Option, none, some, Option·map, Option·getD}
+use native.Mathlib.Omega.{arith}
+use lib.ListN.{length, take}
+use lib.Seq.{length-take-le}
+use Rattle.galois.specs.Packed.{packed}
+use Rattle.bch.specs.Words.{Bits, Distinct, flippedAt}
+use Rattle.bch.specs.Code.{Code, syndrome, wordLength}
+use Rattle.bch.specs.Hard.{Repair, repaired, hardStage, hardFlips, hardWritten}
+use Rattle.bch.proofs.Settings.{Lawful, primitive-of}
+use Rattle.bch.proofs.SyndromeLaws.{syndrome-lt}
+use Rattle.bch.proofs.Decoder.{attempted-sound}
+use Rattle.bch.proofs.Elements.{elements, elements-find}
+use Rattle.bch.proofs.KappaDecoder.{kappas, kappas-more}
+use Rattle.bch.proofs.ClosedForm.{located, hard-located, repaired-located, located-distinct}
+use Rattle.bch.proofs.Placing.{positions, lowerPart}
+use Rattle.bch.proofs.CodeTables.{CodeTables, rootsIn}
+use Rattle.bch.proofs.LogRoots.{quadIn, firstIn, secondIn, code-tables}
+use Rattle.bch.proofs.LogLocator.{locateIn}
+use Rattle.bch.proofs.LogLocated.{locatedIn, locate-is}
+
+-- the word's syndromes in one number, the first t of them
+abbrev pub syndromesOf : Code → List ℕ → ℕ
+syndromesOf c xs = lowerPart (c .t) (packed (syndrome (c .m) 1 xs) (syndrome (c .m) 3 xs) (syndrome (c .m) 5 xs))
+
+module _ (c : Code) (lawful : Lawful c) (ts : List ℕ) (tables : CodeTables (c .m) (c .t) ts) (xs : List ℕ)
+    (long : length xs ≡ wordLength c) (bits : Bits xs) (s : ℕ) (packs : s ≡ syndromesOf c xs) where
+  abbrev S : ℕ → ℕ
+  S i = syndrome (c .m) i xs
+
+  abbrev quad : ℕ → ℕ
+  quad = quadIn (c .m) (rootsIn (c .m) ts)
+
+  abbrev first : ℕ → ℕ
+  first = firstIn (c .m) (rootsIn (c .m) ts)
+
+  abbrev second : ℕ → ℕ
+  second = secondIn (c .m) (rootsIn (c .m) ts)
+
+  lt : (i : ℕ) → S i < 2 ^ c .m
+  lt i = syndrome-lt (c .m) (primitive-of c lawful) i xs bits
+
+  same : locateIn (c .m) (c .t) (c .n) ts s ≡ locatedIn (c .m) (c .t) (c .n) ts (S 1) (S 3) (S 5)
+  same = locate-is (c .m) (c .t) ts tables (c .n) s (S 1) (S 3) (S 5) (lawful .n-most) (lt 1) (lt 3) (lt 5) packs
+
+  -- the hard stage's codeword is the word flipped at the positions found, ..
+  pub repaired-in : repaired c xs ≡ Option·map (λ (P : List ℕ). flippedAt P xs) (locateIn (c .m) (c .t) (c .n) ts s)
+  repaired-in =
+      repaired-located c lawful quad first second (code-tables (c .m) (c .t) ts tables) xs long bits
+      ∙ ap (Option·map (λ (P : List ℕ). flippedAt P xs)) (sym same)
+
+  -- .. and there is none exactly where none are found, ..
+  pub lost-in : (locateIn (c .m) (c .t) (c .n) ts s ≡ none) ↔ (repaired c xs ≡ none)
+  lost-in = (λ e. repaired-in ∙ ap (Option·map (λ (P : List ℕ). flippedAt P xs)) e, λ e. go (locateIn (c .m) (c .t) (c .n) ts s) (sym repaired-in ∙ e))
+    where
+      go : (o : Option (List ℕ)) → Option·map (λ (P : List ℕ). flippedAt P xs) o ≡ none → o ≡ none
+      go none e = refl
+      go (some P) e = absurd (let z : _≡_ {A = ℕ} 0 1 = cc in omega arith)
+
+  -- .. they are distinct, ..
+  pub distinct-in : (P : List ℕ) → locateIn (c .m) (c .t) (c .n) ts s ≡ some P → Distinct (c .n) P
+  distinct-in P e = located-distinct c lawful quad first second (code-tables (c .m) (c .t) ts tables) xs long bits P (sym same ∙ e)
+
+  -- .. at most t, ..
+  pub few-in : (P : List ℕ) → locateIn (c .m) (c .t) (c .n) ts s ≡ some P → length P ≤ c .t
+  unfolding located
+  few-in P e =
+      attempted-sound (c .m) (c .t) (c .n) (S 1) (S 3) (S 5) (elements (c .m) quad (kappas (c .m) first second) (c .t) (S 1) (S 3) (S 5))
+      (elements-find (c .m) (primitive-of c lawful) quad (kappas (c .m) first second) (c .n) (S 1) (S 3) (S 5) (lawful .n-most) (c .t) (lawful .t-least)
+      (lawful .t-most) (code-tables (c .m) (c .t) ts tables .quadratics)
+      (λ q. kappas-more (c .m) (primitive-of c lawful) first second (code-tables (c .m) (c .t) ts tables .kappas q)) .short)
+      P (sym same ∙ e) .1 .few
+
+  -- .. and as many as its flips
+  pub hard-in : hardStage c xs ≡ Option·map (λ (P : List ℕ). record { word = flippedAt P xs; flips = length P }) (locateIn (c .m) (c .t) (c .n) ts s)
+  hard-in =
+      hard-located c lawful quad first second (code-tables (c .m) (c .t) ts tables) xs long bits
+      ∙ ap (Option·map (λ (P : List ℕ). record { word = flippedAt P xs; flips = length P })) (sym same)
+
+  -- ---- as a count and a list, in the shapes of `HardAnswers`
+
+  module _ (found : Bool) (count : ℕ) (ps : List ℕ) (e : positions found count ps ≡ locateIn (c .m) (c .t) (c .n) ts s) where
+    answer : hardStage c xs ≡ Option·map (λ (P : List ℕ). record { word = flippedAt P xs; flips = length P }) (positions found count ps)
+    answer = hard-in ∙ ap (Option·map (λ (P : List ℕ). record { word = flippedAt P xs; flips = length P })) (sym e)
+
+    word : repaired c xs ≡ Option·map (λ (P : List ℕ). flippedAt P xs) (positions found count ps)
+    word = repaired-in ∙ ap (Option·map (λ (P : List ℕ). flippedAt P xs)) (sym e)
+
+    module _ (z : found ≡ false) where
+      -- nothing is found
+      pub none-repaired : repaired c xs ≡ none
+      unfolding positions
+      none-repaired = word ∙ ap (λ (b : Bool). Option·map (λ (P : List ℕ). flippedAt P xs) (positions b count ps)) z
+
+      lost : hardStage c xs ≡ none
+      unfolding positions
+      lost =
+          answer
+          ∙ ap (λ (b : Bool). Option·map (λ (P : List ℕ). record { word = flippedAt P xs; flips = length P }) (positions b count ps)) z
+
+      pub lost-answer : (old : List ℕ) → (none ≡ hardFlips c xs) × (old ≡ hardWritten c xs old)
+      unfolding hardFlips hardWritten
+      lost-answer old = (
+        sym (ap (Option·map (λ (r : Repair). r .flips)) lost),
+        sym (ap (λ (o : Option Repair). Option·getD (Option·map (λ (r : Repair). r .word) o) old) lost),
+      )
+
+    module _ (z : found ≡ true) where
+      -- the codeword is the word flipped at what is found, ..
+      pub found-repaired : repaired c xs ≡ some (flippedAt (take count ps) xs)
+      unfolding positions
+      found-repaired = word ∙ ap (λ (b : Bool). Option·map (λ (P : List ℕ). flippedAt P xs) (positions b count ps)) z
+
+      -- .. which are distinct positions
+      pub found-distinct : Distinct (c .n) (take count ps)
+      unfolding positions
+      found-distinct = distinct-in (take count ps) (sym e ∙ ap (λ (b : Bool). positions b count ps) z)
+
+    module _ (z : found ≡ true) (room : count ≤ length ps) where
+      staged : hardStage c xs ≡ some (record { word = flippedAt (take count ps) xs; flips = count })
+      unfolding positions
+      staged =
+          answer
+          ∙ ap (λ (b : Bool). Option·map (λ (P : List ℕ). record { word = flippedAt P xs; flips = length P }) (positions b count ps)) z
+          ∙ ap (λ (k : ℕ). some (record { word = flippedAt (take count ps) xs; flips = k })) (length-take-le count ps room)
+
+      pub found-answer : (old : List ℕ) → (some count ≡ hardFlips c xs) × (flippedAt (take count ps) xs ≡ hardWritten c xs old)
+      unfolding hardFlips hardWritten
+      found-answer old = (
+        sym (ap (Option·map (λ (r : Repair). r .flips)) staged),
+        sym (ap (λ (o : Option Repair). Option·getD (Option·map (λ (r : Repair). r .word) o) old) staged),
+      )
