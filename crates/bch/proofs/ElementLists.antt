@@ -1,84 +1,15 @@
--- The elements of `Elements` and `KappaDecoder` as a list of at most three, put together one by one. Assumes nothing.
-use Prim.Native.Nat.{ℕ, zero, suc, _+_, _-_, _/_, _%_, _^_, _≤_, _<_}
+-- The elements of `Elements` and `KappaDecoder`, branch by branch. Assumes nothing.
+use Prim.Native.Nat.{ℕ, zero, suc, _+_, _-_, _/_, _%_, _^_, _≤_}
 use native.Mathlib.Omega.{arith}
-use native.Mathlib.Numerals.{add-one}
 use mathlib.Core.Path.{_≡_, refl, ap, ap₂, sym, _∙_}
 use mathlib.Core.Logic.{_≢_}
-use mathlib.Core.List.{List, [], _∷_, _++_, append-nil, append-assoc}
+use mathlib.Core.List.{List, [], _∷_}
 use borrow.Author.Tests.{eq-eqb, ne-eqb}
 use lib.Bits.{bitXor}
-use lib.Pow.{pow-pos}
-use lib.ListN.{length, getD, set, take}
-use lib.Seq.{take-suc-set}
 use Rattle.galois.specs.Field.{alpha, log, mul, over}
-use Rattle.galois.proofs.FieldTables.{Entries}
 use Rattle.bch.specs.Locator.{cubed, d2}
 use Rattle.bch.proofs.Elements.{elements, ifZero, zero-is, zero-not, single, pairOf, pair}
-use Rattle.bch.proofs.KappaDecoder.{e5, kappas, kappa, scale, nonzero, trio, byCubes, byKappa}
-
--- the first of three elements are the list E
-pub record Listed (m count : ℕ) (xs E : List ℕ) : Type 0 where
-  pub few : count ≤ 3
-  pub long : length xs ≡ 3
-  pub entries : Entries m xs
-  pub are : take count xs ≡ E
-
-pub three-entries : (m a b c : ℕ) → a < 2 ^ m → b < 2 ^ m → c < 2 ^ m → Entries m (a ∷ b ∷ c ∷ [])
-three-entries m a b c ha hb hc zero = ha
-three-entries m a b c ha hb hc (suc zero) = hb
-three-entries m a b c ha hb hc (suc (suc zero)) = hc
-three-entries m a b c ha hb hc (suc (suc (suc i))) = pow-pos m
-
--- ---- three entries, one of them replaced
-
-pub set-first : (xs : List ℕ) (i x : ℕ) → length xs ≡ 3 → i ≡ 0 → x ∷ getD xs 1 0 ∷ getD xs 2 0 ∷ [] ≡ set xs i x
-set-first (a ∷ b ∷ c ∷ []) i x l e = rw e refl
-set-first (a ∷ b ∷ c ∷ d ∷ xs) i x l e = absurd (omega arith)
-set-first (a ∷ b ∷ []) i x l e = absurd (omega arith)
-set-first (a ∷ []) i x l e = absurd (omega arith)
-set-first [] i x l e = absurd (omega arith)
-
-pub set-second : (xs : List ℕ) (i x : ℕ) → length xs ≡ 3 → i ≡ 1 → getD xs 0 0 ∷ x ∷ getD xs 2 0 ∷ [] ≡ set xs i x
-set-second (a ∷ b ∷ c ∷ []) i x l e = rw e refl
-set-second (a ∷ b ∷ c ∷ d ∷ xs) i x l e = absurd (omega arith)
-set-second (a ∷ b ∷ []) i x l e = absurd (omega arith)
-set-second (a ∷ []) i x l e = absurd (omega arith)
-set-second [] i x l e = absurd (omega arith)
-
-pub set-third : (xs : List ℕ) (i x : ℕ) → length xs ≡ 3 → i ≡ 2 → getD xs 0 0 ∷ getD xs 1 0 ∷ x ∷ [] ≡ set xs i x
-set-third (a ∷ b ∷ c ∷ []) i x l e = rw e refl
-set-third (a ∷ b ∷ c ∷ d ∷ xs) i x l e = absurd (omega arith)
-set-third (a ∷ b ∷ []) i x l e = absurd (omega arith)
-set-third (a ∷ []) i x l e = absurd (omega arith)
-set-third [] i x l e = absurd (omega arith)
-
--- ---- an element more, unless it is 0
-
-pub put-none : (x : ℕ) (E : List ℕ) → x ≡ 0 → E ≡ E ++ nonzero (x ∷ [])
-unfolding nonzero
-put-none x E e = sym (ap (λ (l : List ℕ). E ++ l) (zero-is x [] (x ∷ []) e) ∙ append-nil E)
-
-pub put-one : (x k : ℕ) (xs : List ℕ) → k < length xs → x ≢ 0 → take (k + 1) (set xs k x) ≡ take k xs ++ nonzero (x ∷ [])
-unfolding nonzero
-put-one x k xs h n = rw add-one (take-suc-set xs k x h ∙ ap (λ (l : List ℕ). take k xs ++ l) (sym (zero-not x [] (x ∷ []) n)))
-
-nonzero-cons : (x : ℕ) (l : List ℕ) → nonzero (x ∷ l) ≡ nonzero (x ∷ []) ++ nonzero l
-unfolding nonzero ifZero
-nonzero-cons zero l = refl
-nonzero-cons (suc x) l = refl
-
--- so a list of one is put together, ..
-pub single-is : (s : ℕ) → nonzero (s ∷ []) ≡ single s
-unfolding nonzero single
-single-is s = refl
-
--- .. and one of three
-pub trio-is : (s x y : ℕ) → (nonzero (bitXor s x ∷ []) ++ nonzero (bitXor s y ∷ [])) ++ nonzero (bitXor s (bitXor x y) ∷ []) ≡ trio s x y
-unfolding trio
-trio-is s x y =
-    append-assoc (nonzero (bitXor s x ∷ [])) (nonzero (bitXor s y ∷ [])) (nonzero (bitXor s (bitXor x y) ∷ []))
-    ∙ ap (λ (l : List ℕ). nonzero (bitXor s x ∷ []) ++ l) (sym (nonzero-cons (bitXor s y) (bitXor s (bitXor x y) ∷ [])))
-    ∙ sym (nonzero-cons (bitXor s x) (bitXor s y ∷ bitXor s (bitXor x y) ∷ []))
+use Rattle.bch.proofs.KappaDecoder.{e5, kappas, kappa, scale, trio, byCubes, byKappa}
 
 -- ---- two elements, by the table of quadratics
 
@@ -182,7 +113,3 @@ module _ (m : ℕ) (quad first second : ℕ → ℕ) (s1 s3 s5 : ℕ) where
     all-kappa z =
         ap₂ (byKappa m first second s1) q r
         ∙ sym (zero-not (e5 m s1 s5) (byCubes m s1 (d2 m s1 s3)) (byKappa m first second s1 (d2 m s1 s3) (e5 m s1 s5)) (λ k. z (r ∙ k))) ∙ sym more
-
--- a list by another name
-pub listed-as : (m k : ℕ) (xs E F : List ℕ) → E ≡ F → Listed m k xs E → Listed m k xs F
-listed-as m k xs E F e l = record { few = l .few; long = l .long; entries = l .entries; are = l .are ∙ e }

@@ -3,7 +3,7 @@
 use Prim.Native.Nat.{ℕ, zero, suc, _<_}
 use native.Mathlib.Omega.{arith}
 use mathlib.Core.List.{List, [], _∷_, _++_}
-use lib.ListN.{getD, set, take, drop, replicate}
+use lib.ListN.{length, getD, set, take, drop, replicate}
 use Rattle.bch.specs.Words.{Below}
 
 -- a joined list
@@ -45,3 +45,10 @@ unfolding Below
 below-at n [] i b = omega arith
 below-at n (x ∷ xs) zero b = b .0
 below-at n (x ∷ xs) (suc i) b = below-at n xs i (b .1)
+
+-- one entry before the end
+pub below-in : (n i : ℕ) (xs : List ℕ) → Below n xs → i < length xs → getD xs i 0 < n
+unfolding Below
+below-in n i [] b h = absurd (omega arith)
+below-in n zero (x ∷ xs) b h = b .0
+below-in n (suc i) (x ∷ xs) b h = below-in n i xs (b .1) (omega arith)

@@ -5,29 +5,37 @@ use mathlib.Core.Path.{_≡_, refl, sym, ap, _∙_}
 use mathlib.Core.Logic.{_↔_}
 use mathlib.Core.Bool.{Bool, true, false}
 use mathlib.Core.List.{List}
-use mathlib.Core.Option.{Option, none, some, Option·map, Option·getD}
+use mathlib.Core.Option.{Option, none, some, Option·map}
 use native.Mathlib.Omega.{arith}
 use lib.ListN.{length, take}
-use lib.Seq.{length-take-le}
 use Rattle.galois.specs.Packed.{packed}
 use Rattle.bch.specs.Words.{Bits, Distinct, flippedAt}
 use Rattle.bch.specs.Code.{Code, syndrome, wordLength}
-use Rattle.bch.specs.Hard.{Repair, repaired, hardStage, hardFlips, hardWritten}
+use Rattle.bch.specs.Hard.{repaired, hardStage}
 use Rattle.bch.proofs.Settings.{Lawful, primitive-of}
 use Rattle.bch.proofs.SyndromeLaws.{syndrome-lt}
 use Rattle.bch.proofs.Decoder.{attempted-sound}
+use Rattle.bch.proofs.Sorting.{distinct-below}
 use Rattle.bch.proofs.Elements.{elements, elements-find}
 use Rattle.bch.proofs.KappaDecoder.{kappas, kappas-more}
 use Rattle.bch.proofs.ClosedForm.{located, hard-located, repaired-located, located-distinct}
-use Rattle.bch.proofs.Placing.{positions, lowerPart}
+use Rattle.bch.proofs.Placing.{positions, lowerPart, Placed}
 use Rattle.bch.proofs.CodeTables.{CodeTables, rootsIn}
 use Rattle.bch.proofs.LogRoots.{quadIn, firstIn, secondIn, code-tables}
 use Rattle.bch.proofs.LogLocator.{locateIn}
 use Rattle.bch.proofs.LogLocated.{locatedIn, locate-is}
+use Rattle.bch.proofs.LogBounds.{Syndromes, syndromes-of}
+use Rattle.bch.proofs.Repairs.{Repairs, placed-within}
 
 -- the word's syndromes in one number, the first t of them
 abbrev pub syndromesOf : Code → List ℕ → ℕ
 syndromesOf c xs = lowerPart (c .t) (packed (syndrome (c .m) 1 xs) (syndrome (c .m) 3 xs) (syndrome (c .m) 5 xs))
+
+-- they are elements
+pub syndromes-in : (c : Code) → Lawful c → (xs : List ℕ) → Bits xs → (s : ℕ) → s ≡ syndromesOf c xs → Syndromes (c .m) (c .t) s
+syndromes-in c h xs bits s e =
+    let lt : (i : ℕ) → syndrome (c .m) i xs < 2 ^ c .m = λ i. syndrome-lt (c .m) (primitive-of c h) i xs bits in
+    syndromes-of (c .m) (c .t) (h .m-most) (h .t-least) (h .t-most) _ _ _ s (lt 1) (lt 3) (lt 5) e
 
 module _ (c : Code) (lawful : Lawful c) (ts : List ℕ) (tables : CodeTables (c .m) (c .t) ts) (xs : List ℕ)
     (long : length xs ≡ wordLength c) (bits : Bits xs) (s : ℕ) (packs : s ≡ syndromesOf c xs) where
@@ -83,33 +91,19 @@ module _ (c : Code) (lawful : Lawful c) (ts : List ℕ) (tables : CodeTables (c 
       hard-located c lawful quad first second (code-tables (c .m) (c .t) ts tables) xs long bits
       ∙ ap (Option·map (λ (P : List ℕ). record { word = flippedAt P xs; flips = length P })) (sym same)
 
-  -- ---- as a count and a list, in the shapes of `HardAnswers`
+  -- ---- as a count and a list
 
   module _ (found : Bool) (count : ℕ) (ps : List ℕ) (e : positions found count ps ≡ locateIn (c .m) (c .t) (c .n) ts s) where
-    answer : hardStage c xs ≡ Option·map (λ (P : List ℕ). record { word = flippedAt P xs; flips = length P }) (positions found count ps)
-    answer = hard-in ∙ ap (Option·map (λ (P : List ℕ). record { word = flippedAt P xs; flips = length P })) (sym e)
+    pub repairs-in : Repairs c xs found count ps
+    repairs-in = hard-in ∙ ap (Option·map (λ (P : List ℕ). record { word = flippedAt P xs; flips = length P })) (sym e)
 
     word : repaired c xs ≡ Option·map (λ (P : List ℕ). flippedAt P xs) (positions found count ps)
     word = repaired-in ∙ ap (Option·map (λ (P : List ℕ). flippedAt P xs)) (sym e)
 
-    module _ (z : found ≡ false) where
-      -- nothing is found
-      pub none-repaired : repaired c xs ≡ none
-      unfolding positions
-      none-repaired = word ∙ ap (λ (b : Bool). Option·map (λ (P : List ℕ). flippedAt P xs) (positions b count ps)) z
-
-      lost : hardStage c xs ≡ none
-      unfolding positions
-      lost =
-          answer
-          ∙ ap (λ (b : Bool). Option·map (λ (P : List ℕ). record { word = flippedAt P xs; flips = length P }) (positions b count ps)) z
-
-      pub lost-answer : (old : List ℕ) → (none ≡ hardFlips c xs) × (old ≡ hardWritten c xs old)
-      unfolding hardFlips hardWritten
-      lost-answer old = (
-        sym (ap (Option·map (λ (r : Repair). r .flips)) lost),
-        sym (ap (λ (o : Option Repair). Option·getD (Option·map (λ (r : Repair). r .word) o) old) lost),
-      )
+    -- nothing is found
+    pub none-repaired : found ≡ false → repaired c xs ≡ none
+    unfolding positions
+    none-repaired z = word ∙ ap (λ (b : Bool). Option·map (λ (P : List ℕ). flippedAt P xs) (positions b count ps)) z
 
     module _ (z : found ≡ true) where
       -- the codeword is the word flipped at what is found, ..
@@ -117,22 +111,11 @@ module _ (c : Code) (lawful : Lawful c) (ts : List ℕ) (tables : CodeTables (c 
       unfolding positions
       found-repaired = word ∙ ap (λ (b : Bool). Option·map (λ (P : List ℕ). flippedAt P xs) (positions b count ps)) z
 
-      -- .. which are distinct positions
+      -- .. which are distinct positions, ..
       pub found-distinct : Distinct (c .n) (take count ps)
       unfolding positions
       found-distinct = distinct-in (take count ps) (sym e ∙ ap (λ (b : Bool). positions b count ps) z)
 
-    module _ (z : found ≡ true) (room : count ≤ length ps) where
-      staged : hardStage c xs ≡ some (record { word = flippedAt (take count ps) xs; flips = count })
-      unfolding positions
-      staged =
-          answer
-          ∙ ap (λ (b : Bool). Option·map (λ (P : List ℕ). record { word = flippedAt P xs; flips = length P }) (positions b count ps)) z
-          ∙ ap (λ (k : ℕ). some (record { word = flippedAt (take count ps) xs; flips = k })) (length-take-le count ps room)
-
-      pub found-answer : (old : List ℕ) → (some count ≡ hardFlips c xs) × (flippedAt (take count ps) xs ≡ hardWritten c xs old)
-      unfolding hardFlips hardWritten
-      found-answer old = (
-        sym (ap (Option·map (λ (r : Repair). r .flips)) staged),
-        sym (ap (λ (o : Option Repair). Option·getD (Option·map (λ (r : Repair). r .word) o) old) staged),
-      )
+      -- .. below n
+      pub found-placed : count ≤ 3 → length ps ≡ 3 → Placed (c .n) count ps
+      found-placed few three = placed-within (c .n) found count ps z few three (λ P q. distinct-below (c .n) P (distinct-in P (sym e ∙ q)))

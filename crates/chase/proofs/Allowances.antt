@@ -1,6 +1,7 @@
 -- The sum of the reliabilities that keys hold, as a loop adds it up; of the least keys it is the allowance A.
 -- Assumes nothing.
-use Prim.Native.Nat.{ℕ, _+_, _-_, _/_, _≤_, _<_}
+-- (`Cases` is named so that its cases are checked before these laws.)
+use Prim.Native.Nat.{ℕ, zero, suc, _+_, _-_, _/_, _≤_, _<_}
 use native.Mathlib.Omega.{arith}
 use native.Mathlib.Numerals.{add-one}
 use mathlib.Core.Path.{_≡_, ap, _∙_}
@@ -9,6 +10,7 @@ use lib.ListN.{length, getD, take}
 use lib.Seq.{take-suc}
 use Rattle.bch.specs.Words.{flips}
 use Rattle.chase.specs.Soft.{hardBits, reliabilities, sum, smallestSum, allowance}
+use Rattle.chase.proofs.Cases as Cases
 use Rattle.chase.proofs.Keys.{Weakest}
 
 -- the sum of what keys hold
@@ -26,6 +28,14 @@ unfolding sum
 weighed-more k ks h =
     rw (add-one, take-suc ks k 0 h, map-append (λ (x : ℕ). x / 1024) (take k ks) (getD ks k 0 ∷ []))
     (sum-append (map (λ (x : ℕ). x / 1024) (take k ks)) (getD ks k 0 / 1024 ∷ []) ∙ omega arith)
+
+-- more keys weigh no less
+pub weighed-mono : (k l : ℕ) (ks : List ℕ) → k ≤ l → weighed (take k ks) ≤ weighed (take l ks)
+unfolding sum
+weighed-mono zero l ks h = omega arith
+weighed-mono (suc k) zero ks h = absurd (omega arith)
+weighed-mono (suc k) (suc l) [] h = omega arith
+weighed-mono (suc k) (suc l) (x ∷ ks) h = omega (arith, weighed-mono k l ks (omega arith))
 
 -- A, from the keys: q is the number of flips
 pub allowance-keys : (size d q : ℕ) (ss ks c : List ℕ) → Weakest size ss ks → d - q ≤ size → d - q ≤ length ss → q ≡ flips c (hardBits ss)

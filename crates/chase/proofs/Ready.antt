@@ -7,14 +7,17 @@ use mathlib.Core.Path.{_≡_, refl, ap, sym, _∙_, subst}
 use mathlib.Core.Bool.{true, false}
 use mathlib.Core.List.{List, map}
 use lib.Bits.{bitXor}
-use lib.ListN.{length, getD, take, set, length-map, List·getD-map}
+use lib.ListN.{length, getD, take, length-map, List·getD-map}
 use lib.Seq.{getD-take, length-take-le}
-use Rattle.galois.proofs.Primitive.{Primitive}
 use Rattle.galois.proofs.FieldTables.{powersOf}
 use Rattle.bch.specs.Words.{Bits, flippedAt, isIn, Distinct}
+use Rattle.bch.specs.Code.{Code}
+use Rattle.bch.proofs.Settings.{Lawful}
 use Rattle.bch.proofs.Counting.{flips-same, flips-most}
 use Rattle.bch.proofs.Flipped.{distinct-at}
 use Rattle.bch.proofs.Located.{length-flipped}
+use Rattle.bch.proofs.Placing.{lowerPart}
+use Rattle.bch.proofs.LogAnswers.{syndromesOf}
 use Rattle.chase.specs.Soft.{hardBits, reliabilities, weak, sum, distance}
 use Rattle.chase.specs.Word.{Symbols, test, weakest}
 use Rattle.chase.proofs.Ranking as Ranking
@@ -22,9 +25,9 @@ use Rattle.chase.proofs.Reach.{bits-hard, length-hard, length-reliabili
 use Rattle.chase.proofs.Keys.{Weakest, reliability-lt, weak-long, weak-at, not-weak}
 use Rattle.chase.proofs.Allowances.{weighed, weighed-more}
 use Rattle.chase.proofs.TestWords.{chosen, test-none, chosen-absent}
-use Rattle.chase.proofs.TestSums.{packedSums, sums-high}
+use Rattle.chase.proofs.TestSums.{sums-high}
 use Rattle.chase.proofs.Weights.{Weighs, packedWeight, unpacked, distance-most, distance-same, weigh-out, weigh-back, weight-high}
-use Rattle.chase.proofs.Doublings.{Doubled, Holds, Small, holds-one, doubled-holds}
+use Rattle.chase.proofs.Doublings.{Doubled, Holds, Small, holds-first, doubled-holds}
 
 -- ss are symbols, the first of eight keys ks are their least, and p is a depth: enough for p weak positions
 pub record Ready (ss ks : List ℕ) (p : ℕ) : Type 0 where
@@ -86,31 +89,32 @@ module _ (ss ks : List ℕ) (p : ℕ) (ready : Ready ss ks p) where
 
   -- ---- the syndromes and the weights of the test words
 
-  abbrev pub sumsOf : ℕ → ℕ → ℕ
-  sumsOf m j = packedSums m (test p ss j)
+  abbrev pub sumsOf : Code → ℕ → ℕ
+  sumsOf c j = syndromesOf c (test p ss j)
 
   abbrev pub weightOf : ℕ → ℕ
   weightOf j = packedWeight (reliabilities ss) (test p ss j) (hardBits ss)
 
   -- test word 0 has the syndromes of the hard bits, ..
-  pub sums-first : (m base : ℕ) (out : List ℕ) → 64 ≤ length out → base ≡ packedSums m (hardBits ss) → Holds (sumsOf m) (2 ^ 0) (set out 0 base)
-  sums-first m base out h e =
-      holds-one (sumsOf m) base out (omega arith) (e ∙ ap (packedSums m) (sym (test-none (weak p (reliabilities ss)) (hardBits ss))))
+  pub sums-first : (c : Code) (base : ℕ) (out : List ℕ) → base ≡ syndromesOf c (hardBits ss) → getD out 0 0 ≡ base → Holds (sumsOf c) 1 out
+  sums-first c base out e h =
+      holds-first (sumsOf c) out (h ∙ e ∙ ap (syndromesOf c) (sym (test-none (weak p (reliabilities ss)) (hardBits ss))))
 
   -- .. and those with a higher bit are had by doubling
-  pub sums-next : (m : ℕ) → Primitive m → m ≤ 10 → (b size v : ℕ) (old new : List ℕ) → b < p → size ≡ 2 ^ b
-      → v ≡ powersOf m (getD ks b 0 % 1024) → Doubled (λ (x : ℕ). bitXor x v) size old new → Holds (sumsOf m) (2 ^ b) old → Holds (sumsOf m) (2 ^ (b + 1)) new
-  sums-next m primitive most b size v old new h q e d t =
-      doubled-holds (sumsOf m) (λ (x : ℕ). bitXor x v) b old new (rw q at d)
-      (λ k l. sums-high m primitive most (length ss) b k (weak p (reliabilities ss)) (hardBits ss) (bits-hard ss (ready .symbols)) (length-hard ss) weak-distinct
+  pub sums-next : (c : Code) → Lawful c → (b size v : ℕ) (old new : List ℕ) → b < p → size ≡ 2 ^ b
+      → v ≡ lowerPart (c .t) (powersOf (c .m) (getD ks b 0 % 1024)) → Doubled (λ (x : ℕ). bitXor x v) size old new
+      → Holds (sumsOf c) (2 ^ b) old → Holds (sumsOf c) (2 ^ (b + 1)) new
+  sums-next c lawful b size v old new h q e d t =
+      doubled-holds (sumsOf c) (λ (x : ℕ). bitXor x v) b old new (rw q at d)
+      (λ k l. sums-high c lawful (length ss) b k (weak p (reliabilities ss)) (hardBits ss) (bits-hard ss (ready .symbols)) (length-hard ss) weak-distinct
       (omega (arith, long-weak)) l
-      ∙ ap (bitXor (sumsOf m k)) (ap (powersOf m) (at-weak b h) ∙ sym e)) t
+      ∙ ap (bitXor (sumsOf c k)) (ap (λ (x : ℕ). lowerPart (c .t) (powersOf (c .m) x)) (at-weak b h) ∙ sym e)) t
 
   -- test word 0 weighs nothing, ..
-  pub weights-first : (out : List ℕ) → 64 ≤ length out → Holds weightOf (2 ^ 0) (set out 0 0)
+  pub weights-first : (out : List ℕ) → getD out 0 0 ≡ 0 → Holds weightOf 1 out
   weights-first out h =
-      holds-one weightOf 0 out (omega arith)
-      (rw (test-none (weak p (reliabilities ss)) (hardBits ss), flips-same (hardBits ss), distance-same (reliabilities ss) (hardBits ss)) refl)
+      holds-first weightOf out
+      (rw (h, test-none (weak p (reliabilities ss)) (hardBits ss), flips-same (hardBits ss), distance-same (reliabilities ss) (hardBits ss)) refl)
 
   -- .. and a higher bit adds its flip
   pub weights-next : (b size z : ℕ) (old new : List ℕ) → b < p → size ≡ 2 ^ b → z ≡ getD ks b 0 / 1024

@@ -9,7 +9,7 @@ ghost use Rattle.bch.specs.Code.{code};
 ghost use Rattle.take_format.specs.Refusal.{encodeRefusal};
 ghost use Rattle.take_format.specs.Calls.{encodeBuffer};
 ghost use Rattle.encoder.specs.Outcome.{encodedOf};
-use refusal::Check;
+use refusal::Named;
 use refusal::Refusal;
 
 mod division;
@@ -27,18 +27,7 @@ pub fn encode(m: usize, t: usize, n: usize, message: &[u8], codeword: &mut [u8])
     ensures { λ _. ⌜ now (codeword .exit) ≡ encodeBuffer (code m t n) (now (message .entry)) (now (codeword .entry)) ⌝ }
 {
     match refusal::settings(m, t, n) {
-        Check::Refused(r) => {
-            return Encoded::Refused(r);
-        }
-        Check::Passed => {}
+        Named::Refused(r) => Encoded::Refused(r),
+        Named::Code(c) => division::encode(c, message, codeword),
     }
-    let k = n - m * t;
-    match refusal::bits(k, n, message, codeword.len()) {
-        Check::Refused(r) => {
-            return Encoded::Refused(r);
-        }
-        Check::Passed => {}
-    }
-    division::write(m, t, n, message, codeword);
-    Encoded::Written
 }

@@ -53,7 +53,7 @@ pub fn make_ladder(edges: &[f32]) -> Made
 {
     if edges.len() != 15 {
         return Made::Refused(Refusal {
-            number: 5,
+            number: refusal::REFUSED_LADDER,
             place: 0,
         });
     }
@@ -77,7 +77,7 @@ pub fn make_ladder(edges: &[f32]) -> Made
         });
     }
     Made::Refused(Refusal {
-        number: 5,
+        number: refusal::REFUSED_LADDER,
         place: 0,
     })
 }
@@ -105,10 +105,10 @@ pub fn quantise(ladder: Ladder, kinds: &[u8], levels: &[f32], symbols: &mut [u8]
     ensures { λ _. ⌜ now (symbols .exit) ≡ quantisedBuffer (edgesOf ladder) (now (kinds .entry)) (now (levels .entry)) (now (symbols .entry)) ⌝ }
 {
     if levels.len() != kinds.len() {
-        return refusal::refuse(6, 0);
+        return refusal::refuse(refusal::REFUSED_INPUT_LENGTH, 0);
     }
     if symbols.len() != kinds.len() {
-        return refusal::refuse(7, 0);
+        return refusal::refuse(refusal::REFUSED_OUTPUT_LENGTH, 0);
     }
     let answer = samples::check(kinds, levels);
     if refuses(answer) {

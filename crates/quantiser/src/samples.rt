@@ -30,9 +30,9 @@ pub fn check(kinds: &[u8], levels: &[f32]) -> Check
         let level = levels[i];
         if bad(kind, level) {
             if 1 < kind {
-                return refusal::refuse(10, i);
+                return refusal::refuse(refusal::REFUSED_KIND, i);
             }
-            return refusal::refuse(11, i);
+            return refusal::refuse(refusal::REFUSED_LEVEL, i);
         }
         i += 1;
     }

@@ -1,4 +1,6 @@
 pub mod Margins
 pub mod Marks
 pub mod Outcomes
+pub mod Powers
 pub mod Tellings
+pub mod Turns

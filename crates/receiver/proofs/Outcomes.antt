@@ -1,20 +1,20 @@
 -- What the search's picks and outcomes stand for, turn by turn. Assumes nothing.
-use Prim.Native.Nat.{ℕ, _+_, _-_, _≤_, _<_}
+use Prim.Native.Nat.{ℕ, _+_, _-_, _^_, _≤_, _<_}
 use native.Mathlib.Omega.{arith}
-use mathlib.Core.Path.{_≡_, refl, ap, sym, _∙_}
-use mathlib.Core.Bool.{Bool, true, false}
+use mathlib.Core.Path.{_≡_, refl, ap, sym, _∙_, subst}
+use mathlib.Core.Bool.{Bool, true, false, cond}
 use mathlib.Core.List.{List}
 use mathlib.Core.Option.{Option, none, some, Option·map}
-use borrow.Author.Tests.{ltb-true, ltb-false}
-use lib.Dec.{ltb}
-use Rattle.bch.specs.Words.{flippedAt}
+use borrow.Author.Tests.{ltb-true, ltb-false, leb-true, leb-false}
+use lib.Dec.{ltb, leb}
 use Rattle.bch.specs.Code.{Code}
-use Rattle.chase.specs.Soft.{Answer, Candidate, sure, answer, settled, better, candidate, tried, searchFrom}
-use Rattle.chase.specs.Word.{test}
-use Rattle.chase.proofs.Steps.{step-sure, step-on, step-end, better-first, better-nearer, better-kept}
-use Rattle.receiver.specs.Search.{flipsOf, candidateOf, pickOf, outcomeOf, nearerPick, Weighed}
+use Rattle.chase.specs.Soft.{Answer, Candidate, sure, answer, settled, better, candidate, tried, searchFrom, softStage}
+use Rattle.chase.proofs.Steps.{search-start, skip, step-sure, step-on, step-end, better-first, better-nearer, better-kept}
+use Rattle.receiver.specs.Search.{candidateOf, pickOf, outcomeOf, nearerPick, pickBy, judgedBy, Sound, Tried, Untried}
 use Rattle.receiver.specs.declared.locate.Flips.{Flips}
+use Rattle.receiver.specs.declared.weighing.Weight.{Weight}
 use Rattle.receiver.specs.declared.search.Pick.{Pick}
+use Rattle.receiver.specs.declared.search.Outcome.{Outcome}
 
 module _ (p : ℕ) (ss : List ℕ) where
   -- a pick that is found stands for a candidate, ..
@@ -23,17 +23,9 @@ module _ (p : ℕ) (ss : List ℕ) where
   pick-some k h = rw h refl
 
   -- .. and another for none
-  pub pick-none : (k : Pick) → k .flips .found ≡ false → pickOf p ss k ≡ none
+  pick-none : (k : Pick) → k .flips .found ≡ false → pickOf p ss k ≡ none
   unfolding pickOf
   pick-none k h = rw h refl
-
-  -- a test word flipped at what is found, with its numbers
-  pub pick-weighed : (d : ℕ) (ks : List ℕ) (j : ℕ) (f : Flips) (k : Pick) → Weighed d p ss ks j f k → f .found ≡ true
-      → pickOf p ss k ≡ some (record { word = flippedAt (flipsOf f) (test p ss j); q = k .q; L = k .sum; A = k .allowed; j = j })
-  pick-weighed d ks j f k w z =
-      pick-some k (ap (λ (g : Flips). g .found) (w .flips) ∙ z)
-      ∙ ap (λ (g : Flips). some (record { word = flippedAt (flipsOf g) (test p ss (k .place)); q = k .q; L = k .sum; A = k .allowed; j = k .place })) (w .flips)
-      ∙ ap (λ (i : ℕ). some (record { word = flippedAt (flipsOf f) (test p ss i); q = k .q; L = k .sum; A = k .allowed; j = i })) (w .place)
 
   -- the better of two: the second where it is nearer, ..
   better-new : (b k : Pick) → k .flips .found ≡ true → nearerPick b (k .sum) ≡ true → better (pickOf p ss b) (candidateOf p ss k) ≡ pickOf p ss k
@@ -73,28 +65,117 @@ module _ (p : ℕ) (ss : List ℕ) where
   module _ (code : Code) (n j : ℕ) (best k : Pick) (more : j < n) (result : pickOf p ss k ≡ Option·map (candidate code p ss j) (tried code p ss j)) {all : Answer}
       (old : searchFrom code p ss (n - j) j (pickOf p ss best) ≡ all) where
     -- a candidate that ends the search, ..
-    pub turn-sure : k .flips .found ≡ true → k .sum ≤ k .allowed → outcomeOf p ss (record { sure = true; tries = j + 1; pick = k }) ≡ all
+    turn-sure : k .flips .found ≡ true → k .sum ≤ k .allowed → outcomeOf p ss (record { sure = true; tries = j + 1; pick = k }) ≡ all
     unfolding outcomeOf
     turn-sure h l =
         let e : outcomeOf p ss (record { sure = true; tries = j + 1; pick = k }) ≡ answer sure (j + 1) (candidateOf p ss k) = rw h refl in
         e ∙ sym (step-sure code p ss n j (pickOf p ss best) more (candidateOf p ss k) (sym result ∙ pick-some k h) l) ∙ old
 
     -- .. one that does not and is nearer than the best so far, ..
-    pub turn-near : k .flips .found ≡ true → k .allowed < k .sum → nearerPick best (k .sum) ≡ true
+    turn-near : k .flips .found ≡ true → k .allowed < k .sum → nearerPick best (k .sum) ≡ true
         → searchFrom code p ss (n - (j + 1)) (j + 1) (pickOf p ss k) ≡ all
     turn-near h l near =
         ap (searchFrom code p ss (n - (j + 1)) (j + 1)) (sym (better-new best k h near))
         ∙ sym (step-on code p ss n j (pickOf p ss best) more (candidateOf p ss k) (sym result ∙ pick-some k h) l) ∙ old
 
     -- .. and one that is not
-    pub turn-far : k .flips .found ≡ true → k .allowed < k .sum → nearerPick best (k .sum) ≡ false
+    turn-far : k .flips .found ≡ true → k .allowed < k .sum → nearerPick best (k .sum) ≡ false
         → searchFrom code p ss (n - (j + 1)) (j + 1) (pickOf p ss best) ≡ all
     turn-far h l far =
         ap (searchFrom code p ss (n - (j + 1)) (j + 1)) (sym (better-old best k far))
         ∙ sym (step-on code p ss n j (pickOf p ss best) more (candidateOf p ss k) (sym result ∙ pick-some k h) l) ∙ old
 
   -- no try is left
-  pub turn-end : (code : Code) (n j : ℕ) (best : Pick) {all : Answer} → n ≡ j → searchFrom code p ss (n - j) j (pickOf p ss best) ≡ all
+  turn-end : (code : Code) (n j : ℕ) (best : Pick) {all : Answer} → n ≡ j → searchFrom code p ss (n - j) j (pickOf p ss best) ≡ all
       → outcomeOf p ss (record { sure = false; tries = j; pick = best }) ≡ all
   turn-end code n j best e old =
       outcome-settled j best ∙ ap (λ (k : ℕ). settled k (pickOf p ss best)) (sym e) ∙ sym (step-end code p ss n j (pickOf p ss best) e) ∙ old
+
+no-bool : {A : Type 0} → true ≡ false → A
+no-bool e = absurd (let z : _≡_ {A = ℕ} 0 1 = cc in omega arith)
+
+-- ---- outcomes, try by try
+
+module _ (code : Code) (p : ℕ) (ss : List ℕ) where
+  -- nothing is tried
+  pub tried-none : (o : Outcome) → Untried o → Tried code p ss o
+  tried-none o u =
+      record {
+        sound = u .sound (code .n);
+        ended = λ z. no-bool (sym z ∙ u .unsure);
+        going = λ _.
+            ap (λ (j : ℕ). searchFrom code p ss (2 ^ p - j) j (pickOf p ss (o .pick))) (u .none-made)
+            ∙ ap (searchFrom code p ss (2 ^ p - 0) 0) (pick-none p ss (o .pick) (u .none-found)) ∙ search-start code p ss;
+      }
+
+  -- all is tried, or the search is ended
+  pub tried-all : (o : Outcome) → Tried code p ss o → (o .sure ≡ false → o .tries ≡ 2 ^ p) → outcomeOf p ss o ≡ softStage code p ss
+  tried-all o t h = go (o .sure) refl
+    where
+      go : (b : Bool) → o .sure ≡ b → outcomeOf p ss o ≡ softStage code p ss
+      go true e = t .ended e
+      go false e =
+          ap (λ (b : Bool). outcomeOf p ss (record { sure = b; tries = o .tries; pick = o .pick })) e
+          ∙ turn-end p ss code (2 ^ p) (o .tries) (o .pick) (sym (h e)) (t .going e)
+
+  module _ (o : Outcome) (unsure : o .sure ≡ false) (t : Tried code p ss o) where
+    -- tries that have no candidate
+    pub tried-missed : (k : ℕ) → o .tries ≤ k → k ≤ 2 ^ p
+        → ((i : ℕ) → o .tries ≤ i → i < k → Option·map (candidate code p ss i) (tried code p ss i) ≡ none)
+        → Tried code p ss (record { sure = o .sure; tries = k; pick = o .pick })
+    tried-missed k l u h =
+        record {
+          sound = t .sound;
+          ended = λ z. no-bool (sym z ∙ unsure);
+          going = λ _.
+              sym (skip code p ss (2 ^ p) (k - o .tries) (o .tries) k (pickOf p ss (o .pick)) (omega arith) u h) ∙ t .going unsure;
+        }
+
+  -- a try that has one: j is its test word, and `o` has counted it
+  module _ (o : Outcome) (unsure : o .sure ≡ false) (j : ℕ) (made : o .tries ≡ j + 1) (more : j < 2 ^ p) (sound : Sound (code .n) (o .pick))
+      (old : searchFrom code p ss (2 ^ p - j) j (pickOf p ss (o .pick)) ≡ softStage code p ss)
+      (A : ℕ) (w : Weight) (f : Flips) (found : f .found ≡ true) (new : Sound (code .n) (pickBy A o w f))
+      (result : pickOf p ss (pickBy A o w f) ≡ Option·map (candidate code p ss j) (tried code p ss j)) where
+    abbrev k : Pick
+    k = pickBy A o w f
+
+    pub tried-judged : Tried code p ss (judgedBy A o w f)
+    unfolding judgedBy
+    tried-judged = go (leb (w .sum) A) refl (nearerPick (o .pick) (w .sum)) refl
+      where
+        go : (x : Bool) → leb (w .sum) A ≡ x → (y : Bool) → nearerPick (o .pick) (w .sum) ≡ y
+            → Tried code p ss (cond x (record { sure = true; tries = o .tries; pick = pickBy A o w f }) (cond y (record { sure = false; tries = o .tries; pick = pickBy A o w f }) o))
+        go true e y g =
+            record {
+              sound = new;
+              ended = λ _.
+                  ap (λ (i : ℕ). outcomeOf p ss (record { sure = true; tries = i; pick = k })) made
+                  ∙ turn-sure p ss code (2 ^ p) j (o .pick) k more result old found (leb-true (w .sum) A e);
+              going = λ z. no-bool z;
+            }
+        go false e true g =
+            record {
+              sound = new;
+              ended = λ z. no-bool (sym z);
+              going = λ _.
+                  ap (λ (i : ℕ). searchFrom code p ss (2 ^ p - i) i (pickOf p ss k)) made
+                  ∙ turn-near p ss code (2 ^ p) j (o .pick) k more result old found (leb-false (w .sum) A e) g;
+            }
+        go false e false g =
+            record {
+              sound = sound;
+              ended = λ z. no-bool (sym z ∙ unsure);
+              going = λ _.
+                  ap (λ (i : ℕ). searchFrom code p ss (2 ^ p - i) i (pickOf p ss (o .pick))) made
+                  ∙ turn-far p ss code (2 ^ p) j (o .pick) k more result old found (leb-false (w .sum) A e) g;
+            }
+
+-- judging a candidate counts no try
+pub judged-tries : (A : ℕ) (o : Outcome) (w : Weight) (f : Flips) → judgedBy A o w f .tries ≡ o .tries
+unfolding judgedBy
+judged-tries A o w f = go (leb (w .sum) A) (nearerPick (o .pick) (w .sum))
+  where
+    go : (x y : Bool) → (cond x (record { sure = true; tries = o .tries; pick = pickBy A o w f }) (cond y (record { sure = false; tries = o .tries; pick = pickBy A o w f }) o)) .tries ≡ o .tries
+    go true y = refl
+    go false true = refl
+    go false false = refl

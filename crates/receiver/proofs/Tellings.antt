@@ -1,6 +1,6 @@
 -- What is told of an outcome, beside the word that is written for it, is the answer that it stands for. Assumes nothing.
 use Prim.Native.Nat.{ℕ}
-use mathlib.Core.Path.{_≡_, refl, ap, ap₂, _∙_}
+use mathlib.Core.Path.{_≡_, refl, ap, ap₂, sym, _∙_}
 use mathlib.Core.Logic.{inr}
 use mathlib.Core.Bool.{Bool, true, false, cond}
 use mathlib.Core.List.{List}
@@ -43,11 +43,9 @@ written-some p ss o old h = rw h (go (o .sure))
     go true = refl
     go false = refl
 
--- ---- the caller's answer, and the buffer w
+-- ---- the caller's answer, where the buffer w is written
 
-pub answer-told : (p : ℕ) (ss old : List ℕ) (o : Outcome) (w : List ℕ) (a : Answer) (r : Soft) → w ≡ softWritten (outcomeOf p ss o) old → outcomeOf p ss o ≡ a
-    → r ≡ told o → (softOf r w ≡ inr a) × (w ≡ softWritten a old)
-answer-told p ss old o w a r e f g = (
-  ap₂ softOf g e ∙ told-answer p ss old o ∙ ap inr f,
-  e ∙ ap (λ (x : Answer). softWritten x old) f,
-)
+pub answer-told : (p : ℕ) (ss old : List ℕ) (o : Outcome) (w : List ℕ) (a : Answer) (r : Soft) → w ≡ softWritten a old → outcomeOf p ss o ≡ a
+    → r ≡ told o → softOf r w ≡ inr a
+answer-told p ss old o w a r e f g =
+    ap₂ softOf g (e ∙ ap (λ (x : Answer). softWritten x old) (sym f)) ∙ told-answer p ss old o ∙ ap inr f

@@ -1,2 +1,4 @@
 pub mod Answer
+pub mod Located
 pub mod Search
+pub mod Tables

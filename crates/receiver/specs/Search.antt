@@ -1,28 +1,33 @@
 -- What the numbers of the search stand for, and when they are sound. Cited by the contracts of private functions alone.
 -- Assumes nothing.
-use Prim.Native.Nat.{ℕ, _-_, _<_}
+use Prim.Native.Nat.{ℕ, _+_, _-_, _^_, _≤_, _<_}
 use mathlib.Core.Path.{_≡_}
-use mathlib.Core.Bool.{Bool, true, cond}
+use mathlib.Core.Bool.{Bool, true, false, cond}
 use mathlib.Core.List.{List}
 use mathlib.Core.Option.{Option, none, some}
-use lib.Dec.{ltb}
+use lib.Dec.{ltb, leb}
 use lib.IntN.{subℕ}
-use lib.ListN.{take}
+use lib.ListN.{length}
 use Rattle.bch.specs.Words.{flippedAt}
+use Rattle.bch.specs.Code.{Code, designDistance}
+use Rattle.bch.proofs.LogAnswers.{syndromesOf}
 use Rattle.bch.proofs.Placing.{Placed}
-use Rattle.chase.specs.Soft.{Answer, Candidate, answer, lostAnswer, sure, fair, hardBits, reliabilities}
+use Rattle.chase.specs.Soft.{Answer, Candidate, answer, lostAnswer, lost, fair, sure, hardBits, reliabilities, searchFrom, softStage}
 use Rattle.chase.specs.Word.{test}
-use Rattle.chase.proofs.Weights.{Weighs}
-use Rattle.chase.proofs.Allowances.{weighed}
+use Rattle.chase.proofs.Doublings.{Holds}
+use Rattle.chase.proofs.Weights.{packedWeight}
+use Rattle.chase.proofs.Ready.{Deep}
+use Rattle.take_format.specs.Batch.{markByte}
+use Rattle.refusal.specs.Named.{codeOf}
+use Rattle.refusal.specs.declared.Code as refusal
 use Rattle.receiver.specs.declared.locate.Flips.{Flips}
+use Rattle.receiver.specs.declared.weighing.Weight.{Weight}
 use Rattle.receiver.specs.declared.search.Pick.{Pick}
 use Rattle.receiver.specs.declared.search.Outcome.{Outcome}
 use Rattle.receiver.specs.declared.Soft.{Soft}
 use Rattle.receiver.specs.declared.Soft.the-variants.{Lost, Fair, Sure}
-
--- the positions of a record
-abbrev pub flipsOf : Flips → List ℕ
-flipsOf f = take (f .count) (f .at)
+use Rattle.receiver.specs.Located.{flipsOf}
+use Rattle.receiver.specs.Tables.{Filled}
 
 module _ (p : ℕ) (ss : List ℕ) where
   -- the candidate of a pick
@@ -41,22 +46,52 @@ module _ (p : ℕ) (ss : List ℕ) where
       (cond (o .sure) (answer sure (o .tries) (candidateOf (o .pick))) (answer fair (o .tries) (candidateOf (o .pick))))
       (lostAnswer (o .tries))
 
--- test word j flipped at f, with its numbers
-pub record Weighed (d p : ℕ) (ss ks : List ℕ) (j : ℕ) (f : Flips) (k : Pick) : Type 0 where
-  pub flips : k .flips ≡ f
-  pub place : k .place ≡ j
-  pub weighs : Weighs (reliabilities ss) (flippedAt (flipsOf f) (test p ss j)) (hardBits ss) (k .q) (k .sum)
-  pub allows : k .allowed ≡ weighed (take (d - k .q) ks)
-
 -- a candidate of distance L is nearer than a pick, where that stands for one
 unfoldable pub nearerPick : Pick → ℕ → Bool
 nearerPick b L = cond (b .flips .found) (ltb L (b .sum)) true
+
+-- the candidate of the last try, of allowance A, as a pick
+abbrev pub pickBy : ℕ → Outcome → Weight → Flips → Pick
+pickBy A o w f = record { q = w .q; sum = w .sum; allowed = A; place = o .tries - 1; flips = f }
+
+-- an outcome with that candidate
+unfoldable pub judgedBy : ℕ → Outcome → Weight → Flips → Outcome
+unfolding nearerPick
+judgedBy A o w f =
+    cond (leb (w .sum) A) (record { sure = true; tries = o .tries; pick = pickBy A o w f })
+    (cond (nearerPick (o .pick) (w .sum)) (record { sure = false; tries = o .tries; pick = pickBy A o w f }) o)
 
 -- a pick's numbers are small, and its positions those of a word of n bits
 pub record Sound (n : ℕ) (k : Pick) : Type 0 where
   pub placed : Placed n (k .flips .count) (k .flips .at)
   pub sum-small : k .sum < 65536
   pub allowed-small : k .allowed < 65536
+
+-- nothing is tried
+pub record Untried (o : Outcome) : Type 0 where
+  pub unsure : o .sure ≡ false
+  pub none-made : o .tries ≡ 0
+  pub none-found : o .pick .flips .found ≡ false
+  pub sound : (n : ℕ) → Sound n (o .pick)
+
+-- an outcome after some tries: the search's answer where one ended it, and otherwise what is left to try gives that answer
+pub record Tried (c : Code) (p : ℕ) (ss : List ℕ) (o : Outcome) : Type 0 where
+  pub sound : Sound (c .n) (o .pick)
+  pub ended : o .sure ≡ true → outcomeOf p ss o ≡ softStage c p ss
+  pub going : o .sure ≡ false → searchFrom c p ss (2 ^ p - o .tries) (o .tries) (pickOf p ss (o .pick)) ≡ softStage c p ss
+
+-- a ranked word and its code's tables
+pub record Ready (c : refusal.Code) (ts ss ks : List ℕ) (p : ℕ) : Type 0 where
+  pub filled : Filled c ts
+  pub long : length ss ≡ c .n
+  pub deep : Deep (designDistance (codeOf c)) ss ks p
+
+-- the syndromes and the weights of the first test words
+pub record TestWords (c : Code) (p : ℕ) (ss sums weights : List ℕ) : Type 0 where
+  pub most : length sums ≤ 2 ^ p
+  pub as-many : length weights ≡ length sums
+  pub are-sums : Holds (λ (j : ℕ). syndromesOf c (test p ss j)) (length sums) sums
+  pub are-weights : Holds (λ (j : ℕ). packedWeight (reliabilities ss) (test p ss j) (hardBits ss)) (length sums) weights
 
 -- the answer's case for an outcome
 unfoldable pub told : Outcome → Soft
@@ -65,3 +100,7 @@ told o =
     (cond (o .sure) (Sure (o .pick .sum) (subℕ (o .pick .allowed) (o .pick .sum)) (o .pick .q) (o .pick .place) (o .tries))
     (Fair (o .pick .sum) (subℕ (o .pick .allowed) (o .pick .sum)) (o .pick .q) (o .pick .place) (o .tries)))
     (Lost (o .tries))
+
+-- the byte of an outcome's mark
+unfoldable pub markIn : Outcome → ℕ
+markIn o = cond (o .pick .flips .found) (cond (o .sure) (markByte sure) (markByte fair)) (markByte lost)

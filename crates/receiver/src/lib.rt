@@ -18,11 +18,11 @@
 //         receiver::Words::Refused(r) => { .. }
 //     }
 //
-// A call checks what it is given (`refusal`) and fills the tables of the field (`field`) and of the solutions that t needs (`roots`). The
-// hard stage adds up the syndromes S1, S3, S5 (`syndrome`), finds the positions to flip (`locate`) and only then writes (`repair`). The
-// soft stage ranks the symbols (`ranking`), has the syndromes and the weight of each test word without writing it out (`tests`),
-// locates and weighs one test word after the other (`search`, `weighing`) and only then writes (`decision`). Several words share their
-// tables (`batch`). What has a `requires` is in private modules.
+// A call checks its settings, which name a code (`refusal`), and what else it is given; then it fills that code's tables (`tables`). The hard
+// stage adds up the syndromes S1, S3, S5 (`hard_stage`), finds the positions to flip (`locate`) and only then writes. The soft stage ranks the
+// symbols (`ranking`), has the syndromes and the weights of test words without writing them out (`test_words`), locates and weighs one test
+// word after the other (`search`, `weighing`) and only then writes (`soft_stage`). Several words share their tables (`all_words`). What has a
+// `requires` is in private modules.
 ghost use Prim.Native.Nat.{_+_, _-_, _^_, min};
 ghost use mathlib.Core.Path.{_≡_};
 ghost use mathlib.Core.Bool.{cond};
@@ -32,19 +32,17 @@ ghost use Rattle.bch.specs.Code.{code};
 ghost use Rattle.take_format.specs.Calls.{hardAnswer, hardBuffer, softAnswer, softBuffer, wordsAnswer, messagesBuffer, marksBuffer};
 ghost use Rattle.take_format.specs.Batch.{countedOf, capped, countedAnswer};
 ghost use Rattle.receiver.specs.Answer.{hardOf, softOf, totalsTold, wordsOf};
-use refusal::Check;
+use refusal::Named;
 use refusal::Refusal;
 
-mod batch;
-mod decision;
-mod field;
+mod all_words;
+mod hard_stage;
 mod locate;
 mod ranking;
-mod repair;
-mod roots;
 mod search;
-mod syndrome;
-mod tests;
+mod soft_stage;
+mod tables;
+mod test_words;
 mod weighing;
 
 // The hard stage's answer: a refusal, a word that is lost, or a codeword found with so many flips.
@@ -60,18 +58,9 @@ pub fn decode_hard(m: usize, t: usize, n: usize, bits: &[u8], codeword: &mut [u8
     ensures { λ _. ⌜ now (codeword .exit) ≡ hardBuffer (code m t n) (now (bits .entry)) (now (codeword .entry)) ⌝ }
 {
     match refusal::settings(m, t, n) {
-        Check::Refused(r) => {
-            return Hard::Refused(r);
-        }
-        Check::Passed => {}
+        Named::Refused(r) => Hard::Refused(r),
+        Named::Code(c) => hard_stage::decode(c, bits, codeword),
     }
-    match refusal::bits(n, n, bits, codeword.len()) {
-        Check::Refused(r) => {
-            return Hard::Refused(r);
-        }
-        Check::Passed => {}
-    }
-    repair::decode(m, t, n, bits, codeword)
 }
 
 // The soft stage's answer: a refusal; a word that is lost; or a codeword, the best of those found (fair) or one that no codeword
@@ -112,18 +101,9 @@ pub fn decode_soft(
     ensures { λ _. ⌜ now (codeword .exit) ≡ softBuffer (code m t n) depth (now (symbols .entry)) (now (codeword .entry)) ⌝ }
 {
     match refusal::settings(m, t, n) {
-        Check::Refused(r) => {
-            return Soft::Refused(r);
-        }
-        Check::Passed => {}
+        Named::Refused(r) => Soft::Refused(r),
+        Named::Code(c) => soft_stage::decode(c, depth, symbols, codeword),
     }
-    match refusal::symbols(depth, n, symbols, codeword.len()) {
-        Check::Refused(r) => {
-            return Soft::Refused(r);
-        }
-        Check::Passed => {}
-    }
-    decision::decode(m, t, n, depth, symbols, codeword)
 }
 
 // What the words of a call add up to: how many there are, how many have each mark, and the tries of all.
@@ -203,17 +183,7 @@ pub fn decode_words(
     ensures { λ _. ⌜ now (marks .exit) ≡ marksBuffer (code m t n) depth words (now (symbols .entry)) (now (messages .entry)) (now (marks .entry)) ⌝ }
 {
     match refusal::settings(m, t, n) {
-        Check::Refused(r) => {
-            return Words::Refused(r);
-        }
-        Check::Passed => {}
+        Named::Refused(r) => Words::Refused(r),
+        Named::Code(c) => all_words::decode(c, depth, words as usize, symbols, messages, marks),
     }
-    let count = words as usize;
-    match batch::check(m, t, n, depth, count, symbols, messages.len(), marks.len()) {
-        Check::Refused(r) => {
-            return Words::Refused(r);
-        }
-        Check::Passed => {}
-    }
-    Words::Decoded(batch::decode(m, t, n, depth, count, symbols, messages, marks))
 }

@@ -1,27 +1,43 @@
-// The positions to flip, from the syndromes: Peterson's locator (document 01, "Hard stage") and its roots in closed form.
+// The positions to flip, from the syndromes in one number: Peterson's locator without inversion (document 01, "Hard stage"), its roots by
+// logarithms.
 //
-// D2 = S1^3 + S3 tells at most one error (0) from more. For t = 2 the two X = α^position have the sum S1 and are S1 w and S1 (w + 1),
-// where w^2 + w = D2 / S1^3. For t = 3, with E = S1^2 D2 + δ2 = S1^5 + S5, they are X = S1 + Y, where D2 Y^3 + E Y + D2^2 = 0: where E
-// is 0 the Y are the cube roots of D2; elsewhere Y = W D2^2 / E, where W^3 = k (W + 1) and k = E^3 / D2^5. Two of the three W stand in
-// tables, and the third Y is the sum of the other two. Two errors are no case of their own: D3 is then 0, and one X with it.
+// The powers of an error at the position whose element is S1, taken off the syndromes, leave 0, D2 = S1^3 + S3 and E = S1^5 + S5 at once. All
+// are 0 where there is at most one error.
+// t = 2: the two elements X have the sum S1 and are S1 w and S1 (w + 1), where w^2 + w = D2 / S1^3. Both positions are sums of logarithms.
+// t = 3: document 01's locator, turned round so that its roots are the X, is D2 X^3 + S1 D2 X^2 + δ2 X + D3. Moved by S1, with Y = X + S1, it
+// is D2 Y^3 + E Y + D2^2, where E = S1^2 D2 + δ2. Where D2 is 0 there is no more than one error, or too many. Where E is 0 the Y are the cube
+// roots of D2. Elsewhere Y = W D2^2 / E, where W^3 = k (W + 1) and k = E^3 / D2^5; two of the three W stand in the tables by the logarithm
+// of k, and the third Y is the sum of the other two. Two errors are no case of their own: D3 is then 0, and one X with it.
+//
+// What is found are roots by how the tables were filled, so that their sums need not be held to the syndromes; only positions at or beyond n
+// are refused.
 ghost use mathlib.Core.Path.{_≡_};
 ghost use mathlib.Core.Logic.{_≢_};
-ghost use mathlib.Core.Bool.{false};
-ghost use mathlib.Core.List.{[], _∷_, _++_};
-ghost use Prim.Native.Nat.{ℕ, _+_, _-_, _/_, _%_, _<_, _≤_, _^_};
-ghost use lib.ListN.{length, getD, take, set};
-ghost use Rattle.galois.proofs.FieldTables.{FieldTables, Entries};
-ghost use Rattle.bch.proofs.Decoder.{attempted};
-ghost use Rattle.bch.proofs.Elements.{single as Elements·single, elements as Elements·elements};
-ghost use Rattle.bch.proofs.KappaDecoder.{kappa as KappaDecoder·kappa, nonzero, byCubes, byKappa, kappas, trio as Elements·trio};
-ghost use Rattle.bch.proofs.RootTables.{RootTables, at};
-ghost use Rattle.bch.proofs.ElementLists.{Listed, pairBy};
-ghost use Rattle.bch.proofs.Placing.{lowerPart, positions, Placed};
-ghost use Rattle.bch.proofs.Seeking.{Parts, locatedBy, Next as Seeking·Next};
-use crate::field;
+ghost use mathlib.Core.List.{[], _∷_};
+ghost use mathlib.Core.Option.{none, some};
+ghost use Prim.Native.Nat.{ℕ, _+_, _-_, _*_, _/_, _%_, _<_, _≤_, _^_};
+ghost use lib.Bits.{bitXor};
+ghost use lib.ListN.{length, getD};
+ghost use Rattle.bch.proofs.Elements.{ifZero};
+ghost use Rattle.bch.proofs.KappaSums.{within};
+ghost use Rattle.bch.proofs.CodeTables.{logIn, powersIn};
+ghost use Rattle.bch.proofs.LogLocator.{pairIn, trioIn, cubesIn, kappaIn, locateIn};
+ghost use Rattle.bch.proofs.LogBounds.{Syndromes};
+ghost use Rattle.bch.proofs.Seeking.{Next as Seeking·Next};
+ghost use Rattle.receiver.specs.Located.{Located, AreSyndromes};
+ghost use Rattle.receiver.specs.Tables.{Fielded, Filled};
+use crate::tables;
+use refusal::Code;
 
-// The entry at i. (Three entries by their names, here and in `with`, stay in registers; an index that varies would put them into
-// memory, and a copy of them waits for it.)
+// The positions to flip, where they are found: a count, and three places of which the unused are 0.
+pub struct Flips {
+    pub found: bool,
+    pub count: usize,
+    pub at: [usize; 3],
+}
+
+// The position at i. (Three places by their names stay in registers; an index that varies would put them into memory, and a copy of them
+// waits for it.)
 pub fn entry_of(xs: [usize; 3], i: usize) -> usize
     requires { ⌜ (i < 3) × (length xs ≡ 3) ⌝ }
     ensures { λ r. ⌜ r ≡ getD xs i 0 ⌝ }
@@ -33,232 +49,20 @@ pub fn entry_of(xs: [usize; 3], i: usize) -> usize
     }
 }
 
-// The entries with x at i.
-fn with(xs: [usize; 3], i: usize, x: usize) -> [usize; 3]
-    requires { ⌜ (i < 3) × (length xs ≡ 3) ⌝ }
-    ensures { λ r. ⌜ r ≡ set xs i x ⌝ }
+// Nothing is to be flipped.
+fn clean() -> Flips
+    ensures { λ r. ⌜ Located r (some []) ⌝ }
 {
-    match i {
-        0 => [x, xs[1], xs[2]],
-        1 => [xs[0], x, xs[2]],
-        _ => [xs[0], xs[1], x],
-    }
-}
-
-// Up to three elements.
-pub struct Elements {
-    pub count: usize,
-    pub at: [usize; 3],
-}
-
-// No element.
-fn none(m: usize) -> Elements
-    ensures { λ r. ⌜ (r .count ≡ 0) × Listed m (r .count) (r .at) [] ⌝ }
-{
-    Elements {
+    Flips {
+        found: true,
         count: 0,
         at: [0usize; 3],
     }
 }
 
-// With x behind, where it is not 0.
-fn put(m: usize, e: Elements, x: usize) -> Elements
-    requires { ⌜ (e .count < 3) × (x < 2 ^ m) × Entries m (e .at) × (length (e .at) ≡ 3) ⌝ }
-    ensures { λ r. ⌜ take (r .count) (r .at) ≡ take (e .count) (e .at) ++ nonzero (x ∷ []) ⌝ }
-    ensures { λ r. ⌜ (r .count ≤ e .count + 1) × Entries m (r .at) × (length (r .at) ≡ 3) ⌝ }
-{
-    if x == 0 {
-        return e;
-    }
-    let old = e.at;
-    let at = with(old, e.count, x);
-    Elements {
-        count: e.count + 1,
-        at: at,
-    }
-}
-
-// One element, or none.
-fn single(m: usize, s1: usize) -> Elements
-    requires { ⌜ s1 < 2 ^ m ⌝ }
-    ensures { λ r. ⌜ Listed m (r .count) (r .at) (Elements·single s1) ⌝ }
-{
-    put(m, none(m), s1)
-}
-
-// Two roots and their sum, moved by S1.
-fn trio(m: usize, s1: usize, x: usize, y: usize) -> Elements
-    requires { ⌜ (s1 < 2 ^ m) × (x < 2 ^ m) × (y < 2 ^ m) ⌝ }
-    ensures { λ r. ⌜ Listed m (r .count) (r .at) (Elements·trio s1 x y) ⌝ }
-{
-    let e = put(m, none(m), s1 ^ x);
-    let f = put(m, e, s1 ^ y);
-    put(m, f, s1 ^ (x ^ y))
-}
-
-// Two elements of sum S1: S1 w and S1 (w + 1), where w^2 + w = D2 / S1^3.
-fn pair(
-    m: usize,
-    period: usize,
-    exps: &[u16],
-    logs: &[u16],
-    powers: &[u32],
-    quad: &[u16],
-    s1: usize,
-    d2: usize,
-) -> Elements
-    requires { ⌜ FieldTables m (now exps) (now logs) (now powers) ⌝ }
-    requires { ⌜ (period ≡ 2 ^ m - 1) × (s1 < 2 ^ m) × (d2 < 2 ^ m) × (2 ^ m ≤ length (now quad)) × Entries m (now quad) ⌝ }
-    ensures { λ r. ⌜ Listed m (r .count) (r .at) (pairBy m (at (now (quad .entry))) s1 d2) ⌝ }
-{
-    if s1 == 0 {
-        return none(m);
-    }
-    let cube = field::cube(m, exps, logs, powers, s1);
-    let c = field::quotient(m, period, exps, logs, powers, d2, cube);
-    let w = field::entry(quad, c);
-    let x = field::product(m, exps, logs, powers, s1, w);
-    Elements {
-        count: 2,
-        at: [x, x ^ s1, 0],
-    }
-}
-
-// Three elements where E is 0, by the cube roots of D2.
-fn by_cubes(
-    m: usize,
-    period: usize,
-    exps: &[u16],
-    logs: &[u16],
-    powers: &[u32],
-    s1: usize,
-    d2: usize,
-) -> Elements
-    requires { ⌜ FieldTables m (now exps) (now logs) (now powers) ⌝ }
-    requires { ⌜ (period ≡ 2 ^ m - 1) × (s1 < 2 ^ m) × (d2 < 2 ^ m) ⌝ }
-    ensures { λ r. ⌜ Listed m (r .count) (r .at) (byCubes m s1 d2) ⌝ }
-{
-    if period % 3 != 0 {
-        return none(m);
-    }
-    let l = field::log_of(m, exps, logs, powers, d2);
-    if l % 3 != 0 {
-        return none(m);
-    }
-    let x = field::power_of(m, exps, logs, powers, l / 3);
-    let y = field::power_of(m, exps, logs, powers, l / 3 + period / 3);
-    trio(m, s1, x, y)
-}
-
-// k = E^3 / D2^5 by logarithms: 3 log E - 5 log D2, in five periods. As exponents, 2^m and 1 are the same.
-fn kappa(
-    m: usize,
-    period: usize,
-    exps: &[u16],
-    logs: &[u16],
-    powers: &[u32],
-    d2: usize,
-    e: usize,
-) -> usize
-    requires { ⌜ FieldTables m (now exps) (now logs) (now powers) ⌝ }
-    requires { ⌜ (period ≡ 2 ^ m - 1) × (d2 < 2 ^ m) × (d2 ≢ 0) × (e < 2 ^ m) × (e ≢ 0) ⌝ }
-    ensures { λ r. ⌜ (r ≡ KappaDecoder·kappa m d2 e) × (r < 2 ^ m) ⌝ }
-{
-    let down = field::log_of(m, exps, logs, powers, d2);
-    let up = field::log_of(m, exps, logs, powers, e);
-    let x = 3 * up + 5 * (period - down);
-    field::power_of(m, exps, logs, powers, (x & period) + (x >> m))
-}
-
-// Two or three elements where D2 and E are not 0, by k = E^3 / D2^5.
-fn by_kappa(
-    m: usize,
-    period: usize,
-    exps: &[u16],
-    logs: &[u16],
-    powers: &[u32],
-    first: &[u16],
-    second: &[u16],
-    s1: usize,
-    d2: usize,
-    e: usize,
-) -> Elements
-    requires { ⌜ FieldTables m (now exps) (now logs) (now powers) ⌝ }
-    requires { ⌜ (period ≡ 2 ^ m - 1) × (s1 < 2 ^ m) × (d2 < 2 ^ m) × (d2 ≢ 0) × (e < 2 ^ m) × (e ≢ 0) ⌝ }
-    requires { ⌜ (2 ^ m ≤ length (now first)) × (2 ^ m ≤ length (now second)) × Entries m (now first) × Entries m (now second) ⌝ }
-    ensures { λ r. ⌜ Listed m (r .count) (r .at) (byKappa m (at (now (first .entry))) (at (now (second .entry))) s1 d2 e) ⌝ }
-{
-    let k = kappa(m, period, exps, logs, powers, d2, e);
-    let v = field::entry(second, k);
-    if v == 0 {
-        return none(m);
-    }
-    let w = field::entry(first, k);
-    let d2_squared = field::product(m, exps, logs, powers, d2, d2);
-    let scale = field::quotient(m, period, exps, logs, powers, d2_squared, e);
-    let x = field::product(m, exps, logs, powers, w, scale);
-    let y = field::product(m, exps, logs, powers, v, scale);
-    trio(m, s1, x, y)
-}
-
-// The elements that t errors can have.
-fn elements_of(
-    m: usize,
-    t: usize,
-    period: usize,
-    exps: &[u16],
-    logs: &[u16],
-    powers: &[u32],
-    first: &[u16],
-    second: &[u16],
-    s1: usize,
-    s3: usize,
-    s5: usize,
-) -> Elements
-    requires { ⌜ FieldTables m (now exps) (now logs) (now powers) ⌝ }
-    requires { ⌜ RootTables m t (now first) (now second) ⌝ }
-    requires { ⌜ (period ≡ 2 ^ m - 1) × (1 ≤ t) × (t ≤ 3) × (s1 < 2 ^ m) × (s3 < 2 ^ m) × (s5 < 2 ^ m) ⌝ }
-    ensures { λ r. ⌜ Listed m (r .count) (r .at) (Elements·elements m (at (now (first .entry))) (kappas m (at (now (first .entry))) (at (now (second .entry)))) t s1 s3 s5) ⌝ }
-{
-    if t == 1 {
-        return single(m, s1);
-    }
-    let d2 = field::cube(m, exps, logs, powers, s1) ^ s3;
-    if d2 == 0 {
-        return single(m, s1);
-    }
-    if t == 2 {
-        return pair(m, period, exps, logs, powers, first, s1, d2);
-    }
-    let e = field::fifth(m, exps, logs, powers, s1) ^ s5;
-    if e == 0 {
-        return by_cubes(m, period, exps, logs, powers, s1, d2);
-    }
-    by_kappa(m, period, exps, logs, powers, first, second, s1, d2, e)
-}
-
-// The first t parts of a packed number.
-fn part(t: usize, x: u32) -> u32
-    requires { ⌜ (1 ≤ t) × (t ≤ 3) ⌝ }
-    ensures { λ r. ⌜ r ≡ lowerPart t x ⌝ }
-{
-    match t {
-        1 => x % 1024,
-        2 => x % 1048576,
-        _ => x,
-    }
-}
-
-// The positions to flip, where they are found: a count, and three places of which the unused are 0.
-pub struct Flips {
-    pub found: bool,
-    pub count: usize,
-    pub at: [usize; 3],
-}
-
-// Nothing to flip is found.
-pub fn lost() -> Flips
-    ensures { λ r. ⌜ (r .found ≡ false) × (r .count ≡ 0) × (length (r .at) ≡ 3) ⌝ }
+// Nothing is found.
+fn lost() -> Flips
+    ensures { λ r. ⌜ Located r none ⌝ }
 {
     Flips {
         found: false,
@@ -267,113 +71,217 @@ pub fn lost() -> Flips
     }
 }
 
-// The elements' logarithms, where they are below n and their powers add up to the syndromes.
-fn place(
-    m: usize,
-    t: usize,
-    n: usize,
-    exps: &[u16],
-    logs: &[u16],
-    powers: &[u32],
-    s: u32,
-    e: Elements,
-) -> Flips
-    requires { ⌜ FieldTables m (now exps) (now logs) (now powers) ⌝ }
-    requires { ⌜ (1 ≤ t) × (t ≤ 3) × (n ≤ 2 ^ m - 1) × (e .count ≤ 3) × (length (e .at) ≡ 3) × Entries m (e .at) ⌝ }
-    ensures { λ r. ⌜ positions (r .found) (r .count) (r .at) ≡ attempted m t n (s % 1024) (s / 1024 % 1024) (s / 1048576) (take (e .count) (e .at)) ⌝ }
-    ensures { λ r. ⌜ Placed n (r .count) (r .at) ⌝ }
+// One position, where it is below n.
+fn one(c: Code, x: usize) -> Flips
+    ensures { λ r. ⌜ Located r (within (c .n) (x ∷ [])) ⌝ }
 {
-    let xs = e.at;
-    let count = e.count;
-    let mut at = [0usize; 3];
-    let mut acc: u32 = 0;
-    let mut i = 0;
-    while i < count {
-        let p = field::log_of(m, exps, logs, powers, entry_of(xs, i));
-        if n <= p {
-            return lost();
-        }
-        let more = with(at, i, p);
-        at = more;
-        acc = acc ^ powers[p];
-        i += 1;
-    }
-    if part(t, acc) != part(t, s) {
+    if c.n <= x {
         return lost();
     }
     Flips {
         found: true,
-        count: count,
-        at: at,
+        count: 1,
+        at: [x, 0, 0],
     }
 }
 
-// The positions to flip, from the syndromes in one number.
-fn locate(
-    m: usize,
-    t: usize,
-    n: usize,
-    period: usize,
-    exps: &[u16],
-    logs: &[u16],
-    powers: &[u32],
-    first: &[u16],
-    second: &[u16],
-    s: u32,
-) -> Flips
-    requires { ⌜ FieldTables m (now exps) (now logs) (now powers) ⌝ }
-    requires { ⌜ RootTables m t (now first) (now second) ⌝ }
-    requires { ⌜ (period ≡ 2 ^ m - 1) × (1 ≤ t) × (t ≤ 3) × (n ≤ 2 ^ m - 1) × Parts m s ⌝ }
-    ensures { λ r. ⌜ positions (r .found) (r .count) (r .at) ≡ locatedBy m t n (now (first .entry)) (now (second .entry)) s ⌝ }
-    ensures { λ r. ⌜ Placed n (r .count) (r .at) ⌝ }
+// Two positions, where both are.
+fn two(c: Code, x: usize, y: usize) -> Flips
+    ensures { λ r. ⌜ Located r (within (c .n) (x ∷ y ∷ [])) ⌝ }
 {
-    let s1 = field::index(s % 1024);
-    let s3 = field::index(s / 1024 % 1024);
-    let s5 = field::index(s / 1048576);
-    let e = elements_of(m, t, period, exps, logs, powers, first, second, s1, s3, s5);
-    place(m, t, n, exps, logs, powers, s, e)
+    if c.n <= x {
+        return lost();
+    }
+    if c.n <= y {
+        return lost();
+    }
+    Flips {
+        found: true,
+        count: 2,
+        at: [x, y, 0],
+    }
 }
 
-// A place among several syndromes, and the positions to flip that are located there.
+// Three positions, where all are.
+fn three(c: Code, x: usize, y: usize, z: usize) -> Flips
+    ensures { λ r. ⌜ Located r (within (c .n) (x ∷ y ∷ z ∷ [])) ⌝ }
+{
+    if c.n <= z {
+        return lost();
+    }
+    if c.n <= x {
+        return lost();
+    }
+    if c.n <= y {
+        return lost();
+    }
+    Flips {
+        found: true,
+        count: 3,
+        at: [x, y, z],
+    }
+}
+
+// S1 w and S1 (w + 1), where w^2 + w = D2 / S1^3: from the logarithm of S1, and D2.
+fn pair(c: Code, tables: &[u32], l1: usize, d2: usize) -> Flips
+    requires { ⌜ Filled c (now tables) × (l1 < 2 ^ c .m - 1) × (d2 < 2 ^ c .m) × (d2 ≢ 0) ⌝ }
+    ensures { λ r. ⌜ Located r (pairIn (c .m) (c .n) (now (tables .entry)) l1 d2) ⌝ }
+{
+    let ld = tables::log_of(c, tables, d2);
+    let e = tables::fold(c, ld + 3 * (c.period - l1));
+    let r = tables::roots_of(c, tables, e);
+    if r == 0 {
+        return lost();
+    }
+    let x = tables::reduced(c.period, l1 + (r % 1024) as usize);
+    let y = tables::reduced(c.period, l1 + (r / 1024) as usize);
+    two(c, x, y)
+}
+
+// Two roots Y and their sum, moved by S1. (An X that is 0 is none.)
+fn trio(c: Code, tables: &[u32], s1: usize, y1: usize, y2: usize) -> Flips
+    requires { ⌜ Filled c (now tables) × (s1 < 2 ^ c .m) × (y1 < 2 ^ c .m) × (y2 < 2 ^ c .m) ⌝ }
+    ensures { λ r. ⌜ Located r (trioIn (c .n) (now (tables .entry)) s1 y1 y2) ⌝ }
+{
+    let x1 = s1 ^ y1;
+    let x2 = s1 ^ y2;
+    let x3 = x1 ^ y2;
+    let p1 = tables::log_of(c, tables, x1);
+    let p2 = tables::log_of(c, tables, x2);
+    let p3 = tables::log_of(c, tables, x3);
+    if x1 == 0 {
+        return two(c, p2, p3);
+    }
+    if x2 == 0 {
+        return two(c, p1, p3);
+    }
+    if x3 == 0 {
+        return two(c, p1, p2);
+    }
+    three(c, p1, p2, p3)
+}
+
+// E is 0: the cube roots of D2.
+fn by_cubes(c: Code, tables: &[u32], s1: usize, d2: usize) -> Flips
+    requires { ⌜ Filled c (now tables) × (s1 < 2 ^ c .m) × (d2 < 2 ^ c .m) × (d2 ≢ 0) ⌝ }
+    ensures { λ r. ⌜ Located r (cubesIn (c .m) (c .n) (now (tables .entry)) s1 d2) ⌝ }
+{
+    let period = c.period;
+    if period % 3 != 0 {
+        return lost();
+    }
+    let l = tables::log_of(c, tables, d2);
+    if l % 3 != 0 {
+        return lost();
+    }
+    let x = tables::powers_of(c, tables, l / 3) % 1024;
+    let y = tables::powers_of(c, tables, l / 3 + period / 3) % 1024;
+    trio(c, tables, s1, x as usize, y as usize)
+}
+
+// Neither D2 nor E is 0: by k = E^3 / D2^5, whose logarithm is 3 log E - 5 log D2.
+fn by_kappa(c: Code, tables: &[u32], s1: usize, d2: usize, e: usize) -> Flips
+    requires { ⌜ Filled c (now tables) × (c .t ≡ 3) × (s1 < 2 ^ c .m) × (d2 < 2 ^ c .m) × (d2 ≢ 0) × (e < 2 ^ c .m) × (e ≢ 0) ⌝ }
+    ensures { λ r. ⌜ Located r (kappaIn (c .m) (c .n) (now (tables .entry)) s1 d2 e) ⌝ }
+{
+    let ld = tables::log_of(c, tables, d2);
+    let le = tables::log_of(c, tables, e);
+    let k = tables::fold(c, 3 * le + 5 * (c.period - ld));
+    let r = tables::roots_of(c, tables, k);
+    if r < 1024 {
+        return lost();
+    }
+    let scale = 2 * ld + (c.period - le);
+    let x = tables::fold(c, scale + (r % 1024) as usize);
+    let y = tables::fold(c, scale + (r / 1024) as usize);
+    let y1 = tables::powers_of(c, tables, x) % 1024;
+    let y2 = tables::powers_of(c, tables, y) % 1024;
+    trio(c, tables, s1, y1 as usize, y2 as usize)
+}
+
+// The positions to flip for the syndromes s.
+fn locate(c: Code, tables: &[u32], s: u32) -> Flips
+    requires { ⌜ Filled c (now tables) × Syndromes (c .m) (c .t) s ⌝ }
+    ensures { λ r. ⌜ Located r (locateIn (c .m) (c .t) (c .n) (now (tables .entry)) s) ⌝ }
+{
+    if s == 0 {
+        return clean();
+    }
+    let s1 = (s % 1024) as usize;
+    let l1 = tables::log_of(c, tables, s1);
+    let rest = s ^ tables::powers_of(c, tables, l1);
+    if rest == 0 {
+        return one(c, l1);
+    }
+    let t = c.t;
+    if t == 1 {
+        return lost();
+    }
+    let d2 = (rest / 1024 % 1024) as usize;
+    if t == 2 {
+        if s1 == 0 {
+            return lost();
+        }
+        return pair(c, tables, l1, d2);
+    }
+    if d2 == 0 {
+        return lost();
+    }
+    let e = (rest / 1048576) as usize;
+    if e == 0 {
+        return by_cubes(c, tables, s1, d2);
+    }
+    by_kappa(c, tables, s1, d2, e)
+}
+
+// What is left of the syndromes without those of one error of the same S1: 0 where there is at most one.
+pub fn rest_of(c: Code, tables: &[u32], s: u32) -> u32
+    requires { ⌜ Fielded c (now tables) × Syndromes (c .m) (c .t) s ⌝ }
+    ensures { λ r. ⌜ r ≡ bitXor s (powersIn (c .m) (now (tables .entry)) (logIn (now (tables .entry)) (s % 1024))) ⌝ }
+{
+    let l1 = tables::log_of(c, tables, (s % 1024) as usize);
+    s ^ tables::powers_of(c, tables, l1)
+}
+
+// The positions to flip where there is at most one error: the tables of roots are not asked.
+pub fn few(c: Code, tables: &[u32], s: u32) -> Flips
+    requires { ⌜ Fielded c (now tables) × Syndromes (c .m) (c .t) s ⌝ }
+    ensures { λ r. ⌜ Located r (ifZero s (some []) (within (c .n) (logIn (now (tables .entry)) (s % 1024) ∷ []))) ⌝ }
+{
+    if s == 0 {
+        return clean();
+    }
+    let l1 = tables::log_of(c, tables, (s % 1024) as usize);
+    one(c, l1)
+}
+
+// How many tries are made, and what the last of them located.
 pub struct Spot {
-    pub at: usize,
+    pub tries: usize,
     pub flips: Flips,
 }
 
-// The first of the syndromes, from one on, for which positions are located. (Both stages go through here: a function that is called
-// from one place alone is compiled into it, and a test word then costs no call of `locate`.)
-pub fn next(
-    m: usize,
-    t: usize,
-    n: usize,
-    period: usize,
-    exps: &[u16],
-    logs: &[u16],
-    powers: &[u32],
-    first: &[u16],
-    second: &[u16],
-    sums: &[u32],
-    from: usize,
-    all: usize,
-) -> Spot
-    requires { ⌜ FieldTables m (now exps) (now logs) (now powers) ⌝ }
-    requires { ⌜ RootTables m t (now first) (now second) ⌝ }
-    requires { ⌜ (period ≡ 2 ^ m - 1) × (1 ≤ t) × (t ≤ 3) × (n ≤ 2 ^ m - 1) ⌝ }
-    requires { ⌜ (from ≤ all) × (all ≤ 64) × (all ≤ length (now sums)) × ((j : ℕ) → j < all → Parts m (getD (now sums) j 0)) ⌝ }
-    ensures { λ r. ⌜ Seeking·Next (λ (j : ℕ). locatedBy m t n (now (first .entry)) (now (second .entry)) (getD (now (sums .entry)) j 0)) from all (r .at) (r .flips .found) (r .flips .count) (r .flips .at) ⌝ }
-    ensures { λ r. ⌜ Placed n (r .flips .count) (r .flips .at) ⌝ }
+// Tries one word after the other, by its syndromes, until positions are located; each try is counted as it is made. (Both stages go
+// through here: a function that is called from one place alone is compiled into it, and a try then costs no call of `locate`.)
+pub fn next(c: Code, tables: &[u32], sums: &[u32], made: usize) -> Spot
+    requires { ⌜ Filled c (now tables) × AreSyndromes c (now sums) × (made ≤ length (now sums)) ⌝ }
+    ensures { λ r. ⌜ Seeking·Next (λ (j : ℕ). locateIn (c .m) (c .t) (c .n) (now (tables .entry)) (getD (now (sums .entry)) j 0)) made (length (now (sums .entry))) (r .tries) (r .flips .found) (r .flips .count) (r .flips .at) ⌝ }
+    ensures { λ r. ⌜ (length (r .flips .at) ≡ 3) × (r .flips .count ≤ 3) ⌝ }
 {
-    let mut j = from;
-    while j < all {
-        let f = locate(m, t, n, period, exps, logs, powers, first, second, sums[j]);
+    let mut tries = made;
+    while tries < sums.len() {
+        let f = locate(c, tables, sums[tries]);
+        tries += 1;
         let found = f.found;
         if found {
-            return Spot { at: j, flips: f };
+            return Spot {
+                tries: tries,
+                flips: f,
+            };
         }
-        j += 1;
     }
     Spot {
-        at: all,
+        tries: tries,
         flips: lost(),
     }
 }

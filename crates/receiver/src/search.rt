@@ -1,25 +1,26 @@
 // The Chase search: the hard stage of one test word after the other, each candidate weighed, until one is sure.
 ghost use mathlib.Core.Path.{_≡_};
+ghost use mathlib.Core.Bool.{false};
 ghost use Prim.Native.Nat.{ℕ, _+_, _-_, _*_, _^_, _≤_};
 ghost use lib.ListN.{length, take};
-ghost use Rattle.galois.proofs.FieldTables.{FieldTables};
-ghost use Rattle.bch.specs.Words.{Distinct};
-ghost use Rattle.bch.specs.Code.{code};
-ghost use Rattle.bch.proofs.Settings.{Lawful};
-ghost use Rattle.bch.proofs.RootTables.{RootTables};
-ghost use Rattle.bch.proofs.Placing.{Placed};
+ghost use Rattle.bch.specs.Code.{designDistance};
+ghost use Rattle.bch.proofs.LogAnswers.{syndromesOf};
 ghost use Rattle.chase.specs.Soft.{hardBits, reliabilities, softStage};
 ghost use Rattle.chase.specs.Word.{test};
 ghost use Rattle.chase.proofs.Doublings.{Holds};
-ghost use Rattle.chase.proofs.TestSums.{packedSums};
 ghost use Rattle.chase.proofs.Weights.{packedWeight};
-ghost use Rattle.chase.proofs.Allowances.{weighed as Allowances·weighed};
+ghost use Rattle.chase.proofs.Allowances.{weighed};
 ghost use Rattle.chase.proofs.Ready.{Deep};
-ghost use Rattle.receiver.specs.Search.{flipsOf, outcomeOf, nearerPick, Weighed, Sound};
+ghost use Rattle.refusal.specs.Named.{codeOf};
+ghost use Rattle.receiver.specs.Tables.{Filled};
+ghost use Rattle.receiver.specs.Search.{nearerPick, judgedBy, outcomeOf, Ready, Sound, Tried, TestWords, Untried};
 use crate::locate;
 use crate::locate::Flips;
 use crate::ranking::Keys;
+use crate::test_words;
 use crate::weighing;
+use crate::weighing::Weight;
+use refusal::Code;
 
 // A candidate by its numbers: q, L and A, the test word that gave it and where that is flipped. Where nothing is found it is none.
 pub struct Pick {
@@ -30,51 +31,31 @@ pub struct Pick {
     pub flips: Flips,
 }
 
-// What the search ends in, with the hard decodings that it made.
+// How far the search is: whether it is ended by a sure candidate, the hard decodings made, and the best candidate.
 pub struct Outcome {
     pub sure: bool,
     pub tries: usize,
     pub pick: Pick,
 }
 
-// No candidate.
-fn nothing(place: usize, f: Flips) -> Pick
-    ensures { λ r. ⌜ (r .flips ≡ f) × (r .place ≡ place) × (r .q ≡ 0) × (r .sum ≡ 0) × (r .allowed ≡ 0) ⌝ }
+// Nothing is tried.
+fn untried() -> Outcome
+    ensures { λ r. ⌜ Untried r ⌝ }
 {
-    Pick {
-        q: 0,
-        sum: 0,
-        allowed: 0,
-        place: place,
-        flips: f,
-    }
-}
-
-// The candidate of test word j, of the weight given, flipped at f.
-fn weighed(
-    d: usize,
-    s: &[u8],
-    keys: Keys,
-    p: usize,
-    allowed: &[u32],
-    j: usize,
-    weight: u32,
-    f: Flips,
-) -> Pick
-    requires { ⌜ Deep d (now s) (keys .at) p × (d ≤ 8) ⌝ }
-    requires { ⌜ (9 ≤ length (now allowed)) × Holds (λ (k : ℕ). Allowances·weighed (take k (keys .at))) 9 (now allowed) ⌝ }
-    requires { ⌜ weight ≡ packedWeight (reliabilities (now s)) (test p (now s) j) (hardBits (now s)) ⌝ }
-    requires { ⌜ Placed (length (now s)) (f .count) (f .at) × Distinct (length (now s)) (flipsOf f) ⌝ }
-    ensures { λ r. ⌜ Weighed d p (now (s .entry)) (keys .at) j f r ⌝ }
-{
-    let w = weighing::weigh(s, keys, p, j, weight, f);
-    let a = weighing::allowed_at(keys, allowed, d, w.q);
-    Pick {
-        q: w.q,
-        sum: w.sum,
-        allowed: a,
-        place: j,
-        flips: f,
+    Outcome {
+        sure: false,
+        tries: 0,
+        pick: Pick {
+            q: 0,
+            sum: 0,
+            allowed: 0,
+            place: 0,
+            flips: Flips {
+                found: false,
+                count: 0,
+                at: [0usize; 3],
+            },
+        },
     }
 }
 
@@ -89,77 +70,126 @@ fn nearer(best: Pick, sum: u32) -> bool
     sum < best.sum
 }
 
-// All tries, unless one of them ends the search.
-pub fn search(
-    m: usize,
-    t: usize,
-    n: usize,
-    period: usize,
-    exps: &[u16],
-    logs: &[u16],
-    powers: &[u32],
-    first: &[u16],
-    second: &[u16],
+// The outcome with the candidate of the last try: it ends the search where its margin is 0 or more, and is kept where it is nearer than the
+// best so far. (No candidate's A is above `most`, so that A is worked out only where it can matter.)
+fn judged(d: usize, keys: Keys, most: u32, o: Outcome, w: Weight, f: Flips) -> Outcome
+    requires { ⌜ (d ≤ 8) × (length (keys .at) ≡ 8) × (most ≡ weighed (take d (keys .at))) × (o .sure ≡ false) × (1 ≤ o .tries) ⌝ }
+    ensures { λ r. ⌜ r ≡ judgedBy (weighed (take (d - w .q) (keys .at))) o w f ⌝ }
+{
+    let near = nearer(o.pick, w.sum);
+    if most < w.sum {
+        if !near {
+            return o;
+        }
+    }
+    let a = weighing::allowance(keys, d, w.q);
+    let k = Pick {
+        q: w.q,
+        sum: w.sum,
+        allowed: a,
+        place: o.tries - 1,
+        flips: f,
+    };
+    if w.sum <= a {
+        return Outcome {
+            sure: true,
+            tries: o.tries,
+            pick: k,
+        };
+    }
+    if near {
+        return Outcome {
+            sure: false,
+            tries: o.tries,
+            pick: k,
+        };
+    }
+    o
+}
+
+// The tries of test words whose syndromes and weights are ready, unless one of them ends the search.
+fn try_on(
+    c: Code,
+    tables: &[u32],
     s: &[u8],
     keys: Keys,
     p: usize,
-    allowed: &[u32],
     sums: &[u32],
     weights: &[u32],
-    all: usize,
+    start: Outcome,
 ) -> Outcome
-    requires { ⌜ FieldTables m (now exps) (now logs) (now powers) ⌝ }
-    requires { ⌜ RootTables m t (now first) (now second) ⌝ }
-    requires { ⌜ Lawful (code m t n) × (period ≡ 2 ^ m - 1) × (length (now s) ≡ n) × Deep (2 * t + 1) (now s) (keys .at) p ⌝ }
-    requires { ⌜ (9 ≤ length (now allowed)) × Holds (λ (k : ℕ). Allowances·weighed (take k (keys .at))) 9 (now allowed) ⌝ }
-    requires { ⌜ (all ≡ 2 ^ p) × (all ≤ 64) × (64 ≤ length (now sums)) × (64 ≤ length (now weights)) ⌝ }
-    requires { ⌜ Holds (λ (j : ℕ). packedSums m (test p (now s) j)) (2 ^ p) (now sums) ⌝ }
-    requires { ⌜ Holds (λ (j : ℕ). packedWeight (reliabilities (now s)) (test p (now s) j) (hardBits (now s))) (2 ^ p) (now weights) ⌝ }
-    ensures { λ r. ⌜ (outcomeOf p (now (s .entry)) r ≡ softStage (code m t n) p (now (s .entry))) × Sound n (r .pick) ⌝ }
+    requires { ⌜ Ready c (now tables) (now s) (keys .at) p × TestWords (codeOf c) p (now s) (now sums) (now weights) ⌝ }
+    requires { ⌜ Tried (codeOf c) p (now s) start × (start .sure ≡ false) × (start .tries ≤ length (now sums)) ⌝ }
+    ensures { λ r. ⌜ Tried (codeOf c) p (now (s .entry)) r × (r .sure ≡ false → r .tries ≡ length (now (sums .entry))) ⌝ }
 {
-    let d = 2 * t + 1;
-    let mut best = nothing(0, locate::lost());
-    let mut tries = 0;
-    while tries < all {
-        let e = locate::next(
-            m,
-            t,
-            n,
-            period,
-            exps,
-            logs,
-            powers,
-            first,
-            second,
-            sums,
-            tries,
-            all,
-        );
-        let j = e.at;
+    let d = c.distance();
+    let most = weighing::allowance(keys, d, 0);
+    let mut o = start;
+    while o.tries < sums.len() {
+        let e = locate::next(c, tables, sums, o.tries);
+        o.tries = e.tries;
         let found = e.flips.found;
         if !found {
-            return Outcome {
-                sure: false,
-                tries: j,
-                pick: best,
-            };
+            return o;
         }
-        let k = weighed(d, s, keys, p, allowed, j, weights[j], e.flips);
-        tries = j + 1;
-        if k.sum <= k.allowed {
-            return Outcome {
-                sure: true,
-                tries: tries,
-                pick: k,
-            };
-        }
-        if nearer(best, k.sum) {
-            best = k;
+        let j = e.tries - 1;
+        let w = weighing::weigh(s, keys, p, j, weights[j], e.flips);
+        o = judged(d, keys, most, o, w, e.flips);
+        if o.sure {
+            return o;
         }
     }
-    Outcome {
-        sure: false,
-        tries: tries,
-        pick: best,
+    o
+}
+
+// The tries after that of test word 0: each weak position doubles the test words, as far as the search gets.
+fn search_on(
+    c: Code,
+    tables: &[u32],
+    s: &[u8],
+    keys: Keys,
+    p: usize,
+    base: u32,
+    start: Outcome,
+) -> Outcome
+    requires { ⌜ Ready c (now tables) (now s) (keys .at) p × (base ≡ syndromesOf (codeOf c) (hardBits (now s))) ⌝ }
+    requires { ⌜ Tried (codeOf c) p (now s) start × (start .sure ≡ false) × (start .tries ≡ 1) ⌝ }
+    ensures { λ r. ⌜ Tried (codeOf c) p (now (s .entry)) r × (r .sure ≡ false → r .tries ≡ 2 ^ p) ⌝ }
+{
+    let at = keys.at;
+    let mut sums = [0u32; 64];
+    let mut weights = [0u32; 64];
+    sums[0] = base;
+    let mut o = start;
+    let mut to = 1;
+    let mut b = 0;
+    while b < p {
+        test_words::double(c, tables, at[b], to, &mut sums, &mut weights);
+        to = 2 * to;
+        o = try_on(c, tables, s, keys, p, &sums[..to], &weights[..to], o);
+        if o.sure {
+            return o;
+        }
+        b += 1;
     }
+    o
+}
+
+// All tries, unless one of them ends the search.
+pub fn search(c: Code, tables: &[u32], s: &[u8], keys: Keys, p: usize) -> Outcome
+    requires { ⌜ Ready c (now tables) (now s) (keys .at) p ⌝ }
+    ensures { λ r. ⌜ (outcomeOf p (now (s .entry)) r ≡ softStage (codeOf c) p (now (s .entry))) × Sound (c .n) (r .pick) ⌝ }
+{
+    let from = c.powers;
+    let base = test_words::syndromes(c, &tables[from..], s);
+    let sums = [base];
+    let weights = [0u32];
+    let o = try_on(c, tables, s, keys, p, &sums, &weights, untried());
+    if o.sure {
+        return o;
+    }
+    if p == 0 {
+        return o;
+    }
+    search_on(c, tables, s, keys, p, base, o)
 }

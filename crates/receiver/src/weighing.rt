@@ -1,11 +1,10 @@
 // What a candidate weighs: its flips q, its distance L and its allowance A.
 ghost use mathlib.Core.Path.{_≡_};
-ghost use Prim.Native.Nat.{ℕ, _+_, _-_, _<_, _≤_};
+ghost use Prim.Native.Nat.{_-_, _<_, _≤_};
 ghost use lib.ListN.{length, getD, take};
 ghost use Rattle.bch.specs.Words.{isIn, Distinct, flippedAt};
 ghost use Rattle.chase.specs.Soft.{hardBits, reliabilities};
 ghost use Rattle.chase.specs.Word.{test, weakest};
-ghost use Rattle.chase.proofs.Doublings.{Holds};
 ghost use Rattle.chase.proofs.TestWords.{chosen};
 ghost use Rattle.chase.proofs.Weights.{Weighs, packedWeight};
 ghost use Rattle.chase.proofs.Allowances.{weighed};
@@ -15,31 +14,20 @@ use crate::locate::Flips;
 use crate::ranking;
 use crate::ranking::Keys;
 
-// The sums of the k smallest reliabilities, for each k.
-pub fn fill_allowed(keys: Keys, out: &mut [u32])
-    requires { ⌜ (length (keys .at) ≡ 8) × (9 ≤ length (now out)) ⌝ }
-    ensures { λ _. ⌜ Holds (λ (k : ℕ). weighed (take k (keys .at))) 9 (now (out .exit)) ⌝ }
-    ensures { λ _. ⌜ length (now (out .exit)) ≡ length (now (out .entry)) ⌝ }
-{
-    let at = keys.at;
-    out[0] = 0;
-    let mut k = 0;
-    while k < 8 {
-        out[k + 1] = out[k] + ranking::held(at[k]);
-        k += 1;
-    }
-}
-
 // A: the sum of the d - q smallest reliabilities.
-pub fn allowed_at(keys: Keys, allowed: &[u32], d: usize, q: u32) -> u32
-    requires { ⌜ (d ≤ 8) × (length (keys .at) ≡ 8) × (9 ≤ length (now allowed)) × Holds (λ (k : ℕ). weighed (take k (keys .at))) 9 (now allowed) ⌝ }
+pub fn allowance(keys: Keys, d: usize, q: u32) -> u32
+    requires { ⌜ (d ≤ 8) × (length (keys .at) ≡ 8) ⌝ }
     ensures { λ r. ⌜ r ≡ weighed (take (d - q) (keys .at)) ⌝ }
 {
+    let at = keys.at;
     let flips = q as usize;
-    if d <= flips {
-        return 0;
+    let mut sum: u32 = 0;
+    let mut k = 0;
+    while k + flips < d {
+        sum += ranking::held(at[k]);
+        k += 1;
     }
-    allowed[d - flips]
+    sum
 }
 
 // The reliability at a position.

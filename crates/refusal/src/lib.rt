@@ -1,12 +1,45 @@
 // Refusals (document 01, "Refusals, by their cause"): the form that all calls share, and the checks that more than one of
 // them makes.
 ghost use mathlib.Core.Path.{_≡_};
+ghost use mathlib.Core.Logic.{inl};
 ghost use Prim.Native.Nat.{_*_, _≤_, _^_};
 ghost use lib.ListN.{drop};
+ghost use Rattle.galois.specs.Field.{poly};
 ghost use Rattle.bch.specs.Code.{code};
 ghost use Rattle.take_format.specs.Refusal.{firstOf, refused, unlessAtMost, bitsCheck, symbolsCheck};
 ghost use Rattle.take_format.specs.Refusal.{settings as Refusal·settings};
+ghost use Rattle.take_format.specs.Calls.{answered};
 ghost use Rattle.refusal.specs.Checked.{checked, AtMost};
+ghost use Rattle.refusal.specs.Named.{namedOf, recordOf};
+
+// The numbers, by their cause.
+pub const REFUSED_M: usize = 1;
+
+pub const REFUSED_T: usize = 2;
+
+pub const REFUSED_N: usize = 3;
+
+pub const REFUSED_DEPTH: usize = 4;
+
+pub const REFUSED_LADDER: usize = 5;
+
+pub const REFUSED_INPUT_LENGTH: usize = 6;
+
+pub const REFUSED_OUTPUT_LENGTH: usize = 7;
+
+pub const REFUSED_BIT: usize = 8;
+
+pub const REFUSED_SYMBOL: usize = 9;
+
+pub const REFUSED_KIND: usize = 10;
+
+pub const REFUSED_LEVEL: usize = 11;
+
+pub const REFUSED_TAKE_HEADER: usize = 12;
+
+pub const REFUSED_TAKE_ZERO: usize = 13;
+
+pub const REFUSED_TAKE_LENGTH: usize = 14;
 
 // A refusal: the number of its cause, and the place of what is refused.
 pub struct Refusal {
@@ -30,42 +63,104 @@ pub fn refuse(number: usize, place: usize) -> Check
     })
 }
 
-// 2^m.
-fn size_of(m: usize) -> usize
-    requires { ⌜ (5 ≤ m) × (m ≤ 8) ⌝ }
-    ensures { λ r. ⌜ r ≡ 2 ^ m ⌝ }
-{
-    match m {
-        5 => 32,
-        6 => 64,
-        7 => 128,
-        _ => 256,
+// A code (document 01, "The codes"): the settings that name it, with what follows from them. Made by `settings`.
+pub struct Code {
+    pub m: usize,
+    pub t: usize,
+    pub n: usize,
+    // The message length k and the design distance d.
+    pub k: usize,
+    pub d: usize,
+    // The polynomial that α is a root of, with the coefficient of x^i as bit i.
+    pub polynomial: usize,
+    // The order of α, 2^m - 1.
+    pub period: usize,
+    // Where a table of powers stands behind one by element, 2^m, and one of roots behind that, 2·2^m + 8.
+    pub powers: usize,
+    pub roots: usize,
+}
+
+impl Code {
+    // How many positions a word has.
+    pub fn length(self) -> usize
+        ensures { λ r. ⌜ r ≡ self .n ⌝ }
+    {
+        self.n
+    }
+
+    // How many bits a message has.
+    pub fn message_length(self) -> usize
+        ensures { λ r. ⌜ r ≡ self .k ⌝ }
+    {
+        self.k
+    }
+
+    // In how many positions two codewords differ at least.
+    pub fn distance(self) -> usize
+        ensures { λ r. ⌜ r ≡ self .d ⌝ }
+    {
+        self.d
     }
 }
 
-// The settings of a code: 1, 2, 3.
-pub fn settings(m: usize, t: usize, n: usize) -> Check
-    ensures { λ r. ⌜ checked r ≡ firstOf (Refusal·settings (code m t n)) ⌝ }
+// What settings name: a code, where they are not refused.
+pub enum Named {
+    Refused(Refusal),
+    Code(Code),
+}
+
+// Settings that are refused with a number.
+fn unnamed(number: usize) -> Named
+    ensures { λ r. ⌜ namedOf r ≡ inl (record { number = number; place = 0 }) ⌝ }
 {
-    if m < 5 {
-        return refuse(1, 0);
-    }
-    if 8 < m {
-        return refuse(1, 0);
-    }
+    Named::Refused(Refusal {
+        number: number,
+        place: 0,
+    })
+}
+
+// The code of m, t and n, in the field of `size` elements where α is a root of the polynomial: 2, 3.
+fn over(m: usize, size: usize, polynomial: usize, t: usize, n: usize) -> Named
+    requires { ⌜ (5 ≤ m) × (m ≤ 8) × (size ≡ 2 ^ m) × (polynomial ≡ poly m) × (size ≤ 256) ⌝ }
+    ensures { λ r. ⌜ namedOf r ≡ answered (firstOf (Refusal·settings (code m t n))) (recordOf (code m t n)) ⌝ }
+{
     if t < 1 {
-        return refuse(2, 0);
+        return unnamed(REFUSED_T);
     }
     if 3 < t {
-        return refuse(2, 0);
+        return unnamed(REFUSED_T);
     }
-    if n <= m * t {
-        return refuse(3, 0);
+    let r = m * t;
+    if n <= r {
+        return unnamed(REFUSED_N);
     }
-    if size_of(m) <= n {
-        return refuse(3, 0);
+    if size <= n {
+        return unnamed(REFUSED_N);
     }
-    Check::Passed
+    Named::Code(Code {
+        m: m,
+        t: t,
+        n: n,
+        k: n - r,
+        d: 2 * t + 1,
+        polynomial: polynomial,
+        period: size - 1,
+        powers: size,
+        roots: 2 * size + 8,
+    })
+}
+
+// The code that m, t and n name: 1, 2, 3. (m picks the field's polynomial and its size.)
+pub fn settings(m: usize, t: usize, n: usize) -> Named
+    ensures { λ r. ⌜ namedOf r ≡ answered (firstOf (Refusal·settings (code m t n))) (recordOf (code m t n)) ⌝ }
+{
+    match m {
+        5 => over(m, 32, 0b100101, t, n),
+        6 => over(m, 64, 0b1000011, t, n),
+        7 => over(m, 128, 0b10001001, t, n),
+        8 => over(m, 256, 0b100011101, t, n),
+        _ => unnamed(REFUSED_M),
+    }
 }
 
 // A byte that neither is above.
@@ -128,12 +223,12 @@ pub fn bits(k: usize, n: usize, bits: &[u8], room: usize) -> Check
     ensures { λ r. ⌜ checked r ≡ bitsCheck k n (now (bits .entry)) room ⌝ }
 {
     if bits.len() != k {
-        return refuse(6, 0);
+        return refuse(REFUSED_INPUT_LENGTH, 0);
     }
     if room != n {
-        return refuse(7, 0);
+        return refuse(REFUSED_OUTPUT_LENGTH, 0);
     }
-    at_most(8, 1, bits)
+    at_most(REFUSED_BIT, 1, bits)
 }
 
 // The depth, the n symbols that a call takes, and the room of n bytes that it writes to: 4, 6, 7, 9.
@@ -141,13 +236,13 @@ pub fn symbols(depth: usize, n: usize, symbols: &[u8], room: usize) -> Check
     ensures { λ r. ⌜ checked r ≡ symbolsCheck depth n (now (symbols .entry)) room ⌝ }
 {
     if 6 < depth {
-        return refuse(4, 0);
+        return refuse(REFUSED_DEPTH, 0);
     }
     if symbols.len() != n {
-        return refuse(6, 0);
+        return refuse(REFUSED_INPUT_LENGTH, 0);
     }
     if room != n {
-        return refuse(7, 0);
+        return refuse(REFUSED_OUTPUT_LENGTH, 0);
     }
-    at_most(9, 31, symbols)
+    at_most(REFUSED_SYMBOL, 31, symbols)
 }

@@ -10,7 +10,7 @@ use Rattle.take_format.specs.Refusal.{Refusal, firstOf, settings}
 use Rattle.take_format.specs.Calls.{answered, unlessRefused}
 
 -- two lists of checks, the second where the first refuses nothing
-first-joined : (os ps : List (Option Refusal)) → firstOf (os ++ ps) ≡ firstOf (firstOf os ∷ ps)
+pub first-joined : (os ps : List (Option Refusal)) → firstOf (os ++ ps) ≡ firstOf (firstOf os ∷ ps)
 unfolding firstOf
 first-joined [] ps = refl
 first-joined (none ∷ os) ps = first-joined os ps

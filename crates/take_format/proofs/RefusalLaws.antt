@@ -1,4 +1,5 @@
 -- Laws of the checks: what holds where none of them refuses. Assumes nothing.
+-- (`Cases` is named so that its cases are checked before these laws, which follow the definitions' text.)
 use Prim.Native.Nat.{ℕ, suc, _+_, _-_, _^_, _≤_, _<_, _*_}
 use native.Mathlib.Omega.{arith}
 use native.Mathlib.Numerals.{add-one}
@@ -14,7 +15,9 @@ use Rattle.galois.proofs.Tests.{and-left, and-right}
 use Rattle.bch.specs.Words.{Below, Bits}
 use Rattle.bch.specs.Code.{Code, IsCode, parityLength, wordLength, messageLength}
 use Rattle.chase.specs.Word.{Symbols}
-use Rattle.take_format.specs.Refusal.{Refusal, refused, unless, unlessAtMost, firstOf, settings, depthCheck, inputLength, outputLength, bitBytes, symbolBytes, bitsCheck, bitsRefusal, symbolsCheck, softRefusal, wordsCheck, wordsRefusal}
+use Rattle.take_format.specs.Refusal.{Refusal, refused, unless, unlessAtMost, firstOf, settings, depthCheck, inputLength, outputLength}
+use Rattle.take_format.specs.Refusal.{bitBytes, symbolBytes, bitsCheck, bitsRefusal, symbolsCheck, softRefusal, wordsCheck, wordsRefusal}
+use Rattle.take_format.proofs.Cases as Cases
 
 -- ---- a list of checks
 
@@ -149,23 +152,26 @@ pub record BitsAccepted (c : Code) (k : ℕ) (bits codeword : List ℕ) : Type 0
   pub room : length codeword ≡ wordLength c
   pub are-bits : Bits bits
 
-pub bits-accepted : (c : Code) (k : ℕ) (bits codeword : List ℕ) → bitsRefusal c k bits codeword ≡ none → BitsAccepted c k bits codeword
-unfolding bitsRefusal bitsCheck
-bits-accepted c k bits codeword e =
+-- .. those of its bits and its room, ..
+pub bits-checked : (k n : ℕ) (bits : List ℕ) (room : ℕ) → bitsCheck k n bits room ≡ none → (length bits ≡ k) × (room ≡ n) × Bits bits
+unfolding bitsCheck
+bits-checked k n bits room e =
     let i = inputLength k (length bits) in
-    let o = outputLength (wordLength c) (length codeword) in
+    let o = outputLength n room in
     let b = bitBytes bits in
-    let (s, call) = first-append (settings c) (firstOf (i ∷ o ∷ b ∷ []) ∷ []) e in
-    let (all, _) = first-cons (firstOf (i ∷ o ∷ b ∷ [])) [] call in
-    let (hi, rest) = first-cons i (o ∷ b ∷ []) all in
+    let (hi, rest) = first-cons i (o ∷ b ∷ []) e in
     let (ho, last) = first-cons o (b ∷ []) rest in
     let (hb, _) = first-cons b [] last in
-    record {
-      isCode = settings-code c s;
-      long = input-none k (length bits) hi;
-      room = output-none (wordLength c) (length codeword) ho;
-      are-bits = bits-none bits hb;
-    }
+    (input-none k (length bits) hi, output-none n room ho, bits-none bits hb)
+
+-- .. and all of them
+pub bits-accepted : (c : Code) (k : ℕ) (bits codeword : List ℕ) → bitsRefusal c k bits codeword ≡ none → BitsAccepted c k bits codeword
+unfolding bitsRefusal
+bits-accepted c k bits codeword e =
+    let (s, call) = first-append (settings c) (bitsCheck k (wordLength c) bits (length codeword) ∷ []) e in
+    let (all, _) = first-cons (bitsCheck k (wordLength c) bits (length codeword)) [] call in
+    let (long, room, bytes) = bits-checked k (wordLength c) bits (length codeword) all in
+    record { isCode = settings-code c s; long = long; room = room; are-bits = bytes }
 
 -- what those of the soft stage leave
 pub record SoftAccepted (c : Code) (p : ℕ) (symbols codeword : List ℕ) : Type 0 where
@@ -175,61 +181,74 @@ pub record SoftAccepted (c : Code) (p : ℕ) (symbols codeword : List ℕ) : Typ
   pub room : length codeword ≡ wordLength c
   pub are-symbols : Symbols symbols
 
-pub soft-accepted : (c : Code) (p : ℕ) (symbols codeword : List ℕ) → softRefusal c p symbols codeword ≡ none → SoftAccepted c p symbols codeword
-unfolding softRefusal symbolsCheck
-soft-accepted c p symbols codeword e =
-    let d = depthCheck p in
-    let i = inputLength (wordLength c) (length symbols) in
-    let o = outputLength (wordLength c) (length codeword) in
+-- those of the symbols and the room alone
+pub symbols-accepted : (p n : ℕ) (symbols : List ℕ) (room : ℕ) → symbolsCheck p n symbols room ≡ none
+    → (p ≤ 6) × (length symbols ≡ n) × (room ≡ n) × Symbols symbols
+unfolding symbolsCheck
+symbols-accepted p n symbols room e =
+    let i = inputLength n (length symbols) in
+    let o = outputLength n room in
     let b = symbolBytes 0 symbols in
-    let (s, call) = first-append (settings c) (firstOf (d ∷ i ∷ o ∷ b ∷ []) ∷ []) e in
-    let (all, _) = first-cons (firstOf (d ∷ i ∷ o ∷ b ∷ [])) [] call in
-    let (hd, more) = first-cons d (i ∷ o ∷ b ∷ []) all in
+    let (hd, more) = first-cons (depthCheck p) (i ∷ o ∷ b ∷ []) e in
     let (hi, rest) = first-cons i (o ∷ b ∷ []) more in
     let (ho, last) = first-cons o (b ∷ []) rest in
     let (hb, _) = first-cons b [] last in
-    record {
-      isCode = settings-code c s;
-      depth = depth-none p hd;
-      long = input-none (wordLength c) (length symbols) hi;
-      room = output-none (wordLength c) (length codeword) ho;
-      are-symbols = symbols-none 0 symbols hb;
-    }
+    (depth-none p hd, input-none n (length symbols) hi, output-none n room ho, symbols-none 0 symbols hb)
+
+pub soft-accepted : (c : Code) (p : ℕ) (symbols codeword : List ℕ) → softRefusal c p symbols codeword ≡ none → SoftAccepted c p symbols codeword
+unfolding softRefusal
+soft-accepted c p symbols codeword e =
+    let check = symbolsCheck p (wordLength c) symbols (length codeword) in
+    let (s, call) = first-append (settings c) (check ∷ []) e in
+    let (h, _) = first-cons check [] call in
+    let ok = symbols-accepted p (wordLength c) symbols (length codeword) h in
+    record { isCode = settings-code c s; depth = ok .0; long = ok .1; room = ok .2; are-symbols = ok .3 }
 
 -- ---- the call on several words
 
-pub record WordsAccepted (c : Code) (p W : ℕ) (symbols messages marks : List ℕ) : Type 0 where
-  pub isCode : IsCode c
+-- what its checks leave, beside those of the settings
+pub record WordsChecked (c : Code) (p W : ℕ) (symbols messages marks : List ℕ) : Type 0 where
   pub depth : p ≤ 6
   pub long : length symbols ≡ W * wordLength c
   pub messages-room : length messages ≡ W * messageLength c
   pub marks-room : length marks ≡ W
   pub are-symbols : Symbols symbols
 
-pub words-accepted : (c : Code) (p W : ℕ) (symbols messages marks : List ℕ) → wordsRefusal c p W symbols messages marks ≡ none
-    → WordsAccepted c p W symbols messages marks
-unfolding wordsRefusal wordsCheck
-words-accepted c p W symbols messages marks e =
+pub words-checked : (c : Code) (p W : ℕ) (symbols messages marks : List ℕ) → wordsCheck c p W symbols (length messages) (length marks) ≡ none
+    → WordsChecked c p W symbols messages marks
+unfolding wordsCheck
+words-checked c p W symbols messages marks e =
     let d = depthCheck p in
     let i = inputLength (W * wordLength c) (length symbols) in
     let o = outputLength (W * messageLength c) (length messages) in
     let k = outputLength W (length marks) in
     let b = symbolBytes 0 symbols in
-    let (s, call) = first-append (settings c) (firstOf (d ∷ i ∷ o ∷ k ∷ b ∷ []) ∷ []) e in
-    let (all, _) = first-cons (firstOf (d ∷ i ∷ o ∷ k ∷ b ∷ [])) [] call in
-    let (hd, more) = first-cons d (i ∷ o ∷ k ∷ b ∷ []) all in
+    let (hd, more) = first-cons d (i ∷ o ∷ k ∷ b ∷ []) e in
     let (hi, rest) = first-cons i (o ∷ k ∷ b ∷ []) more in
     let (ho, rooms) = first-cons o (k ∷ b ∷ []) rest in
     let (hk, last) = first-cons k (b ∷ []) rooms in
     let (hb, _) = first-cons b [] last in
     record {
-      isCode = settings-code c s;
       depth = depth-none p hd;
       long = input-none (W * wordLength c) (length symbols) hi;
       messages-room = output-none (W * messageLength c) (length messages) ho;
       marks-room = output-none W (length marks) hk;
       are-symbols = symbols-none 0 symbols hb;
     }
+
+-- what all of them leave
+pub record WordsAccepted (c : Code) (p W : ℕ) (symbols messages marks : List ℕ) : Type 0 where
+  pub isCode : IsCode c
+  pub sound : WordsChecked c p W symbols messages marks
+
+pub words-accepted : (c : Code) (p W : ℕ) (symbols messages marks : List ℕ) → wordsRefusal c p W symbols messages marks ≡ none
+    → WordsAccepted c p W symbols messages marks
+unfolding wordsRefusal
+words-accepted c p W symbols messages marks e =
+    let check = wordsCheck c p W symbols (length messages) (length marks) in
+    let (s, call) = first-append (settings c) (check ∷ []) e in
+    let (h, _) = first-cons check [] call in
+    record { isCode = settings-code c s; sound = words-checked c p W symbols messages marks h }
 
 -- ---- what holds of a refusal
 
@@ -282,15 +301,42 @@ Within most o = IfRefused (λ (r : Refusal). r .place ≤ most) o
 within-unless : (most k : ℕ) (b : Bool) → Within most (unless k b)
 within-unless most k b r e = omega (arith, unless-refused k b r e .1)
 
--- the soft stage's, not beyond its symbols
+-- that of settings is 0, so that a call's is where its other checks have it
+call-within : (most : ℕ) (c : Code) (later : Option Refusal) → Within most later → Within most (firstOf (settings c ++ later ∷ []))
+unfolding settings AllSo
+call-within most c later f =
+    let near : Refusal → Type 0 = λ r. r .place ≤ most in
+    let m = within-unless most 1 (leb 5 (c .m) && leb (c .m) 8) in
+    let t = within-unless most 2 (leb 1 (c .t) && leb (c .t) 3) in
+    let n = within-unless most 3 (leb (parityLength c + 1) (c .n) && leb (c .n) (2 ^ c .m - 1)) in
+    first-so near (settings c ++ later ∷ []) (both-so near (settings c) (later ∷ []) (m, (t, (n, tt))) (f, tt))
+
+within-symbols : (xs : List ℕ) → Within (length xs) (symbolBytes 0 xs)
+unfolding symbolBytes
+within-symbols xs r e = omega (arith, bytes-refused 9 31 0 xs r e .1)
+
+-- the soft stage's, not beyond its symbols, ..
 pub soft-within : (c : Code) (p : ℕ) (symbols codeword : List ℕ) → Within (length symbols) (softRefusal c p symbols codeword)
-unfolding softRefusal symbolsCheck settings depthCheck inputLength outputLength symbolBytes AllSo
+unfolding softRefusal symbolsCheck depthCheck inputLength outputLength AllSo
 soft-within c p symbols codeword =
     let most = length symbols in
-    let near : Refusal → Type 0 = λ r. r .place ≤ most in
     let n = wordLength c in
-    let bytes : Within most (unlessAtMost 9 31 0 symbols) = λ r e. omega (arith, bytes-refused 9 31 0 symbols r e .1) in
-    let word = depthCheck p ∷ inputLength n (length symbols) ∷ outputLength n (length codeword) ∷ symbolBytes 0 symbols ∷ [] in
-    let named : AllSo near (settings c) = (within-unless most 1 (leb 5 (c .m) && leb (c .m) 8), (within-unless most 2 (leb 1 (c .t) && leb (c .t) 3), (within-unless most 3 (leb (parityLength c + 1) (c .n) && leb (c .n) (2 ^ c .m - 1)), tt))) in
-    let later : AllSo near word = (within-unless most 4 (leb p 6), (within-unless most 6 (eqb (length symbols) n), (within-unless most 7 (eqb (length codeword) n), (bytes, tt)))) in
-    first-so near (settings c ++ firstOf word ∷ []) (both-so near (settings c) (firstOf word ∷ []) named (first-so near word later, tt))
+    let word = depthCheck p ∷ inputLength n most ∷ outputLength n (length codeword) ∷ symbolBytes 0 symbols ∷ [] in
+    let i = within-unless most 6 (eqb most n) in
+    let o = within-unless most 7 (eqb (length codeword) n) in
+    call-within most c (firstOf word)
+    (first-so (λ (r : Refusal). r .place ≤ most) word (within-unless most 4 (leb p 6), (i, (o, (within-symbols symbols, tt)))))
+
+-- .. nor that of several words
+pub words-within : (c : Code) (p W : ℕ) (symbols messages marks : List ℕ) → Within (length symbols) (wordsRefusal c p W symbols messages marks)
+unfolding wordsRefusal wordsCheck depthCheck inputLength outputLength AllSo
+words-within c p W symbols messages marks =
+    let most = length symbols in
+    let n = W * wordLength c in
+    let k = W * messageLength c in
+    let words = depthCheck p ∷ inputLength n most ∷ outputLength k (length messages) ∷ outputLength W (length marks) ∷ symbolBytes 0 symbols ∷ [] in
+    let i = within-unless most 6 (eqb most n) in
+    let o = within-unless most 7 (eqb (length messages) k) in
+    let m = within-unless most 7 (eqb (length marks) W) in
+    call-within most c (firstOf words)
+    (first-so (λ (r : Refusal). r .place ≤ most) words (within-unless most 4 (leb p 6), (i, (o, (m, (within-symbols symbols, tt))))))

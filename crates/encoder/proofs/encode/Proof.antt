@@ -1,16 +1,15 @@
--- The checks' answers are the call's, and where they refuse nothing the codeword is written. Assumes nothing.
-use native.Mathlib.Omega.{arith}
-use mathlib.Core.Path.{ap, sym, _∙_}
-use mathlib.Core.Option.{none}
+-- Settings that are refused are the call's refusal, and their code's answer is otherwise the call's. Assumes nothing.
+use mathlib.Core.Path.{_≡_, refl, ap, sym, _∙_, subst}
 use borrow.Author.Needs.{needs}
 use lib.ListN.{length}
-use Rattle.bch.specs.Code.{code, wordLength, messageLength}
+use Rattle.bch.specs.Code.{Code, code, wordLength, messageLength}
 use Rattle.bch.specs.Encode.{encoded}
-use Rattle.take_format.specs.Refusal.{bitsCheck, bitsRefusal}
+use Rattle.take_format.specs.Refusal.{firstOf, settings, bitsCheck, bitsRefusal, encodeRefusal}
 use Rattle.take_format.specs.Calls.{encodeBuffer}
-use Rattle.take_format.proofs.RefusalLaws.{settings-code, bits-accepted}
-use Rattle.take_format.proofs.CallLaws.{settings-refused, later-refused, buffer-some, buffer-none}
-use Rattle.refusal.specs.Checked.{checked}
+use Rattle.take_format.proofs.CallLaws.{settings-refused, buffer-some}
+use Rattle.refusal.specs.Named.{namedOf, codeOf}
+use Rattle.refusal.specs.declared.Code as struct
+use Rattle.refusal.proofs.Laws.{named-code, named-refused}
 use Rattle.encoder.specs.Outcome.{encodedOf}
 use Rattle.encoder.proofs.encode.Statement.{statement}
 use Rattle.encoder.proofs.encode.Tie as tie
@@ -21,79 +20,45 @@ settings-requires c κs = search needs
 enum-known-r : tie.Need-enum-known-r
 enum-known-r c = search needs
 
+enum-known-c : tie.Need-enum-known-c
+enum-known-c c = search needs
+
+encode-requires : tie.Need-encode-requires
+encode-requires c κs =
+    let g = c .before .before .c .given in
+    let b = c .before .before .before .before in
+    let a = b .before .before .before .args in
+    let w = code (a .m) (a .t) (a .n) in
+    let (ok, e) = named-code (g .0 .0) (firstOf (settings w)) w (sym (ap namedOf (g .1)) ∙ b .settings .ensures) in
+    (ap (λ (x : struct.Code). firstOf (settings (codeOf x))) e ∙ ok, subst (λ (x : struct.Code). x .k ≡ messageLength (codeOf x)) (sym e) refl)
+
 returns : tie.Need-returns
-unfolding bitsRefusal checked encodedOf encodeBuffer
+unfolding bitsRefusal encodedOf encodeBuffer
 returns c =
-    let a = c .before .before .before .before .before .before .args in
+    let g = c .before .r .given in
+    let b = c .before .before .before in
+    let a = b .before .before .before .args in
     let w = code (a .m) (a .t) (a .n) in
-    let refused = sym (ap checked (c .before .r .given .1)) ∙ c .before .before .before .settings .ensures in
-    let e = settings-refused w (bitsCheck (messageLength w) (wordLength w) (a .message .now) (length (a .codeword .now))) _ refused in
+    let refused = named-refused (g .0 .0) (firstOf (settings w)) _ (sym (ap namedOf (g .1)) ∙ b .settings .ensures) in
+    let later = bitsCheck (messageLength w) (wordLength w) (a .message .now) (length (a .codeword .now)) in
+    let e = settings-refused w later _ (sym refused) in
     (sym e, buffer-some _ _ (a .codeword .now) (encoded w (a .message .now)) e)
-
-enum-told : tie.Need-enum-told
-enum-told c = search needs
-
-mul-k : tie.Need-mul-k
-unfolding bitsRefusal checked
-mul-k c =
-    let a = c .before .before .before .before .before .args in
-    let named = sym (c .before .before .settings .ensures) ∙ ap checked (c .enum-told .given .1) in
-    let ok = settings-code (code (a .m) (a .t) (a .n)) named in
-    omega (arith, ok .n-least)
-
-sub-k : tie.Need-sub-k
-unfolding bitsRefusal checked
-sub-k c =
-    let a = c .before .before .before .before .before .args in
-    let named = sym (c .before .before .settings .ensures) ∙ ap checked (c .enum-told .given .1) in
-    let ok = settings-code (code (a .m) (a .t) (a .n)) named in
-    omega (arith, ok .n-least)
-
-bits-requires : tie.Need-bits-requires
-bits-requires c κs = search needs
-
-enum-known-r-2 : tie.Need-enum-known-r-2
-enum-known-r-2 c = search needs
-
-returns-2 : tie.Need-returns-2
-unfolding bitsRefusal checked encodedOf encodeBuffer
-returns-2 c =
-    let a = c .before .before .before .before .before .before .before .before .before .args in
-    let w = code (a .m) (a .t) (a .n) in
-    let named = sym (ap checked (c .before .before .before .before .enum-told .given .1))
-    ∙ c .before .before .before .before .before .before .settings .ensures in
-    let refused = sym (ap checked (c .before .r2 .given .1)) ∙ c .before .before .before .bits .ensures in
-    let e = later-refused w _ _ named refused in
-    (sym e, buffer-some _ _ (a .codeword .now) (encoded w (a .message .now)) e)
-
-enum-told-2 : tie.Need-enum-told-2
-enum-told-2 c = search needs
-
-write-requires : tie.Need-write-requires
-unfolding bitsRefusal checked
-write-requires c κs =
-    let a = c .before .before .before .before .before .before .before .before .before .args in
-    let w = code (a .m) (a .t) (a .n) in
-    let named = sym (ap checked (c .before .before .before .before .enum-told .given .1))
-    ∙ c .before .before .before .before .before .before .settings .ensures in
-    let bits = sym (ap checked (c .before .enum-told2 .given .1)) ∙ c .before .before .before .bits .ensures in
-    bits-accepted w (messageLength w) (a .message .now) (a .codeword .now)
-    (later-refused w _ none named bits)
 
 same-length : tie.Need-same-length
 same-length c = search needs
 
-returns-3 : tie.Need-returns-3
-unfolding bitsRefusal checked encodedOf encodeBuffer
-returns-3 c =
-    let a = c .before .before .before .before .before .before .before .before .before .before .before .before .args in
+returns-2 : tie.Need-returns-2
+returns-2 c =
+    let d = c .before .before in
+    let g = d .before .before .before .c .given in
+    let b = d .before .before .before .before .before in
+    let a = b .before .before .before .args in
     let w = code (a .m) (a .t) (a .n) in
-    let named = sym (ap checked (c .before .before .before .before .before .before .before .enum-told .given .1))
-    ∙ c .before .before .before .before .before .before .before .before .before .settings .ensures in
-    let bits = sym (ap checked (c .before .before .before .before .enum-told2 .given .1))
-    ∙ c .before .before .before .before .before .before .bits .ensures in
-    let e = later-refused w _ none named bits in
-    (sym e, c .before .before .write .ensures ∙ buffer-none _ (a .codeword .now) (encoded w (a .message .now)) e)
+    let (_, e) = named-code (g .0 .0) (firstOf (settings w)) w (sym (ap namedOf (g .1)) ∙ b .settings .ensures) in
+    let same = ap codeOf e in (
+      d .encode .ensures .0 ∙ ap (λ (k : Code). encodeRefusal k (a .message .now) (a .codeword .now)) same,
+      d .encode .ensures .1 ∙ ap (λ (k : Code). encodeBuffer k (a .message .now) (a .codeword .now)) same,
+    )
 
 pub encode-spec : {M : Type 1} → statement M
 encode-spec =
@@ -101,14 +66,8 @@ encode-spec =
     (tie.spec
     settings-requires
     enum-known-r
+    enum-known-c
+    encode-requires
     returns
-    enum-told
-    mul-k
-    sub-k
-    bits-requires
-    enum-known-r-2
-    returns-2
-    enum-told-2
-    write-requires
     same-length
-    returns-3)
+    returns-2)

@@ -6,10 +6,10 @@ use mathlib.Core.Path.{ap, _∙_}
 use mathlib.Core.List.{List, _++_}
 use borrow.Author.Needs.{needs}
 use lib.ListN.{take, drop}
-use Rattle.bch.specs.Code.{code}
 use Rattle.bch.proofs.Settings.{lawful}
 use Rattle.bch.proofs.GeneratorLaws.{suits-all}
 use Rattle.bch.proofs.EncodeLaws.{encoded-written}
+use Rattle.refusal.specs.Named.{codeOf}
 use Rattle.encoder.proofs.division.write.Statement.{statement}
 use Rattle.encoder.proofs.division.write.Tie as tie
 
@@ -21,8 +21,8 @@ generator-of-requires c κs = search needs
 
 parity-requires : tie.Need-parity-requires
 parity-requires c κs =
-    let s = c .before .before .before in
-    let a = s .args in
+    let s = c .before .before .before .before in
+    let a = s .args .c in
     let ok = s .pre .isCode in (
       omega (arith, mul-le-mul (ok .m-most) (ok .t-most)),
       rw (c .generator-of .ensures) (suits-all (a .m) (a .t) (ok .m-least) (omega arith) (ok .t-least) (ok .t-most) .degree),
@@ -40,15 +40,19 @@ same-length c = search needs
 
 returns : tie.Need-returns
 returns c =
-    let s = c .before .before .before .before .before .before .before .before .before .before .before .before in
+    let d = c .before .before in
+    let p = d .before .before .before .before in
+    let s = p .before .before .before .before .before .before .before in
     let a = s .args in
+    let m = a .c .m in
+    let t = a .c .t in
     let ok = s .pre .isCode in
-    let rest = drop (a .m * a .t) (a .codeword .now) in
-    c .before .before .write-message .ensures
-    ∙ ap (λ (xs : List ℕ). take (a .m * a .t) xs ++ a .message .now) (c .before .before .before .before .before .before .write-parity .ensures)
-    ∙ encoded-written (code (a .m) (a .t) (a .n)) (lawful _ ok) (omega arith) (a .message .now) rest _ _ (s .pre .are-bits) (s .pre .long)
-    (c .before .before .before .before .before .before .before .before .before .generator-of .ensures)
-    (c .before .before .before .before .before .before .before .before .parity .ensures)
+    let rest = drop (m * t) (a .codeword .now) in
+    d .write-message .ensures
+    ∙ ap (λ (xs : List ℕ). take (m * t) xs ++ a .message .now) (p .write-parity .ensures)
+    ∙ encoded-written (codeOf (a .c)) (lawful _ ok) (omega arith) (a .message .now) rest _ _ (s .pre .are-bits) (s .pre .long)
+    (p .before .before .before .generator-of .ensures)
+    (p .before .before .parity .ensures)
 
 pub write-spec : {M : Type 1} → statement M
 write-spec =

@@ -1,66 +1,74 @@
--- Two elements, from the table of quadratics. Assumes nothing.
-use native.Mathlib.Omega.{arith}
-use mathlib.Core.Path.{refl, ap, _∙_}
+-- This function meets its contract. Assumes nothing.
 use borrow.Author.Needs.{needs}
-use lib.Bits.{xor-lt}
-use lib.Pow.{pow-pos}
-use Rattle.galois.specs.Field.{mul, over}
-use Rattle.bch.proofs.RootTables.{at}
-use Rattle.bch.proofs.ElementLists.{listed-as, three-entries, pair-zero, pair-two}
+use Rattle.bch.proofs.LogSteps.{pair-lost, pair-found}
 use Rattle.receiver.proofs.locate.pair.Statement.{statement}
 use Rattle.receiver.proofs.locate.pair.Tie as tie
 
-none-requires : tie.Need-none-requires
-none-requires c κs = search needs
+log-of-requires : tie.Need-log-of-requires
+log-of-requires c κs = search needs
+
+sub-fold : tie.Need-sub-fold
+sub-fold c = search needs
+
+mul-fold : tie.Need-mul-fold
+mul-fold c = search needs
+
+add-fold : tie.Need-add-fold
+add-fold c = search needs
+
+fold-requires : tie.Need-fold-requires
+fold-requires c κs = search needs
+
+roots-of-requires : tie.Need-roots-of-requires
+roots-of-requires c κs = search needs
+
+lost-requires : tie.Need-lost-requires
+lost-requires c κs = search needs
 
 returns : tie.Need-returns
-returns c =
-    let s = c .before .before .before .before .before .before in
-    let a = s .args in
-    listed-as _ _ _ _ _ (pair-zero (a .m) (at (a .quad .now)) (a .s1) (a .d2) (c .before .if1 .taken)) (c .none .ensures .1)
+returns c = let s = c .before .before .before .before .before .before .before in let a = s .args in (pair-lost (a .c .m) (a .c .n) (a .tables .now) (a .l1) (a .d2) _ _ _ _ (s .pre .0 .fielded .made .is-period) (c .before .before .before .before .before .log-of .ensures .0) (c .before .before .before .fold .ensures .0) (c .before .before .roots-of .ensures) (c .before .if1 .taken) (c .lost .ensures .0), c .lost .ensures .1, c .lost .ensures .2)
 
-cube-requires : tie.Need-cube-requires
-cube-requires c κs =
-    let s = c .before .before .before .before .before in
-    (s .pre .0, s .pre .1 .1)
+cast-reduced : tie.Need-cast-reduced
+cast-reduced c = search needs
 
-quotient-requires : tie.Need-quotient-requires
-quotient-requires c κs =
-    let s = c .before .before .before .before .before .before in
-    (s .pre .0, (s .pre .1 .0, s .pre .1 .2, c .cube .ensures .1))
+add-reduced : tie.Need-add-reduced
+add-reduced c = search needs
 
-entry-requires : tie.Need-entry-requires
-entry-requires c κs =
-    let s = c .before .before .before .before .before .before .before in
-    omega (arith, c .quotient .ensures .1, s .pre .1 .3)
+reduced-requires : tie.Need-reduced-requires
+reduced-requires c κs = search needs
 
-product-requires : tie.Need-product-requires
-product-requires c κs =
-    let s = c .before .before .before .before .before .before .before .before in
-    (s .pre .0, (s .pre .1 .1, rw (c .entry .ensures) (s .pre .1 .4 _)))
+cast-reduced-2 : tie.Need-cast-reduced-2
+cast-reduced-2 c = search needs
+
+add-reduced-2 : tie.Need-add-reduced-2
+add-reduced-2 c = search needs
+
+reduced-requires-2 : tie.Need-reduced-requires-2
+reduced-requires-2 c κs = search needs
+
+two-requires : tie.Need-two-requires
+two-requires c κs = search needs
 
 returns-2 : tie.Need-returns-2
-returns-2 c =
-    let s = c .before .before .before .before .before .before .before .before .before in
-    let m = s .args .m in
-    let quad = at (s .args .quad .now) in
-    let k = c .before .before .quotient .ensures .0 ∙ ap (over m (s .args .d2)) (c .before .before .before .cube .ensures .0) in
-    let e = c .product .ensures .0 ∙ ap (mul m (s .args .s1)) (c .before .entry .ensures ∙ ap quad k) in
-    record {
-      few = omega arith;
-      long = refl;
-      entries = three-entries m _ _ _ (c .product .ensures .1) (xor-lt m _ _ (c .product .ensures .1) (s .pre .1 .1)) (pow-pos m);
-      are = pair-two m quad (s .args .s1) (s .args .d2) _ (c .before .before .before .before .if1 .left) e;
-    }
+returns-2 c = let s = c .before .before .before .before .before .before .before .before .before in let a = s .args in (pair-found (a .c .m) (a .c .n) (a .tables .now) (a .l1) (a .d2) _ _ _ _ (s .pre .0 .fielded .made .is-period) (c .before .before .before .before .before .before .before .log-of .ensures .0) (c .before .before .before .before .before .fold .ensures .0) (c .before .before .before .before .roots-of .ensures) (c .before .before .before .if1 .left) _ _ (c .before .before .reduced .ensures .0) (c .before .reduced2 .ensures .0) (c .two .ensures .0), c .two .ensures .1, c .two .ensures .2)
 
 pub pair-spec : {M : Type 1} → statement M
 pair-spec =
     tie.close
     (tie.spec
-    none-requires
+    log-of-requires
+    sub-fold
+    mul-fold
+    add-fold
+    fold-requires
+    roots-of-requires
+    lost-requires
     returns
-    cube-requires
-    quotient-requires
-    entry-requires
-    product-requires
+    cast-reduced
+    add-reduced
+    reduced-requires
+    cast-reduced-2
+    add-reduced-2
+    reduced-requires-2
+    two-requires
     returns-2)

@@ -1,44 +1,57 @@
--- The three sums, but 0. Assumes nothing.
-use Prim.Native.Nat.{ℕ}
+-- This function meets its contract. Assumes nothing.
 use native.Mathlib.Omega.{arith}
-use mathlib.Core.Path.{ap, _∙_}
-use mathlib.Core.List.{List, [], _∷_, _++_}
+use mathlib.Core.Path.{refl}
 use borrow.Author.Needs.{needs}
 use lib.Bits.{bitXor, xor-lt}
-use Rattle.bch.proofs.KappaDecoder.{nonzero}
-use Rattle.bch.proofs.ElementLists.{trio-is}
+use Rattle.bch.proofs.LogSteps.{trio-first, trio-second, trio-third, trio-all}
 use Rattle.receiver.proofs.locate.trio.Statement.{statement}
 use Rattle.receiver.proofs.locate.trio.Tie as tie
 
-none-requires : tie.Need-none-requires
-none-requires c κs = search needs
+log-of-requires : tie.Need-log-of-requires
+log-of-requires c κs = let s = c .before in let a = s .args in (s .pre .0 .fielded, (xor-lt (a .c .m) (a .s1) (a .y1) (s .pre .1) (s .pre .2)))
 
-put-requires : tie.Need-put-requires
-put-requires c κs =
-    let s = c .before in
-    (omega arith, xor-lt (s .args .m) _ _ (s .pre .0) (s .pre .1), c .none .ensures .1 .entries, c .none .ensures .1 .long)
+log-of-requires-2 : tie.Need-log-of-requires-2
+log-of-requires-2 c κs = let s = c .before .before in let a = s .args in (s .pre .0 .fielded, (xor-lt (a .c .m) (a .s1) (a .y2) (s .pre .1) (s .pre .3)))
 
-put-requires-2 : tie.Need-put-requires-2
-put-requires-2 c κs =
-    let s = c .before .before in
-    (omega arith, xor-lt (s .args .m) _ _ (s .pre .0) (s .pre .2), c .put .ensures .1 .1, c .put .ensures .1 .2)
+log-of-requires-3 : tie.Need-log-of-requires-3
+log-of-requires-3 c κs = let s = c .before .before .before in let a = s .args in (s .pre .0 .fielded, xor-lt (a .c .m) (bitXor (a .s1) (a .y1)) (a .y2) (xor-lt (a .c .m) (a .s1) (a .y1) (s .pre .1) (s .pre .2)) (s .pre .3))
 
-put-requires-3 : tie.Need-put-requires-3
-put-requires-3 c κs =
-    let s = c .before .before .before in
-    let h = xor-lt (s .args .m) _ _ (s .pre .1) (s .pre .2) in
-    (omega arith, xor-lt (s .args .m) _ _ (s .pre .0) h, c .put2 .ensures .1 .1, c .put2 .ensures .1 .2)
+two-requires : tie.Need-two-requires
+two-requires c κs = search needs
 
 returns : tie.Need-returns
-returns c =
-    let a = c .before .before .before .before .args in
-    let s = a .s1 in
-    let x = a .x in
-    let y = a .y in
-    let one = c .before .before .put .ensures .0 ∙ ap (λ (l : List ℕ). l ++ nonzero (bitXor s x ∷ [])) (c .before .before .before .none .ensures .1 .are) in
-    let two = c .before .put2 .ensures .0 ∙ ap (λ (l : List ℕ). l ++ nonzero (bitXor s y ∷ [])) one in
-    let e = c .put3 .ensures .0 ∙ ap (λ (l : List ℕ). l ++ nonzero (bitXor s (bitXor x y) ∷ [])) two ∙ trio-is s x y in
-    record { few = omega arith; long = c .put3 .ensures .1 .2; entries = c .put3 .ensures .1 .1; are = e }
+returns c = let s = c .before .before .before .before .before .before in let a = s .args in (trio-first (a .c .n) (a .tables .now) (a .s1) (a .y1) (a .y2) _ _ _ _ _ _ refl refl refl (c .before .before .before .before .log-of .ensures .0) (c .before .before .before .log-of2 .ensures .0) (c .before .before .log-of3 .ensures .0) (c .before .if1 .taken) (c .two .ensures .0), c .two .ensures .1, c .two .ensures .2)
+
+two-requires-2 : tie.Need-two-requires-2
+two-requires-2 c κs = search needs
+
+returns-2 : tie.Need-returns-2
+returns-2 c = let s = c .before .before .before .before .before .before .before in let a = s .args in (trio-second (a .c .n) (a .tables .now) (a .s1) (a .y1) (a .y2) _ _ _ _ _ _ refl refl refl (c .before .before .before .before .before .log-of .ensures .0) (c .before .before .before .before .log-of2 .ensures .0) (c .before .before .before .log-of3 .ensures .0) (c .before .before .if1 .left) (c .before .if2 .taken) (c .two2 .ensures .0), c .two2 .ensures .1, c .two2 .ensures .2)
+
+two-requires-3 : tie.Need-two-requires-3
+two-requires-3 c κs = search needs
+
+returns-3 : tie.Need-returns-3
+returns-3 c = let s = c .before .before .before .before .before .before .before .before in let a = s .args in (trio-third (a .c .n) (a .tables .now) (a .s1) (a .y1) (a .y2) _ _ _ _ _ _ refl refl refl (c .before .before .before .before .before .before .log-of .ensures .0) (c .before .before .before .before .before .log-of2 .ensures .0) (c .before .before .before .before .log-of3 .ensures .0) (c .before .before .before .if1 .left) (c .before .before .if2 .left) (c .before .if3 .taken) (c .two3 .ensures .0), c .two3 .ensures .1, c .two3 .ensures .2)
+
+three-requires : tie.Need-three-requires
+three-requires c κs = search needs
+
+returns-4 : tie.Need-returns-4
+returns-4 c = let s = c .before .before .before .before .before .before .before .before in let a = s .args in (trio-all (a .c .n) (a .tables .now) (a .s1) (a .y1) (a .y2) _ _ _ _ _ _ refl refl refl (c .before .before .before .before .before .before .log-of .ensures .0) (c .before .before .before .before .before .log-of2 .ensures .0) (c .before .before .before .before .log-of3 .ensures .0) (c .before .before .before .if1 .left) (c .before .before .if2 .left) (c .before .if3 .left) (c .three .ensures .0), c .three .ensures .1, c .three .ensures .2)
 
 pub trio-spec : {M : Type 1} → statement M
-trio-spec = tie.close (tie.spec none-requires put-requires put-requires-2 put-requires-3 returns)
+trio-spec =
+    tie.close
+    (tie.spec
+    log-of-requires
+    log-of-requires-2
+    log-of-requires-3
+    two-requires
+    returns
+    two-requires-2
+    returns-2
+    two-requires-3
+    returns-3
+    three-requires
+    returns-4)

@@ -1,238 +1,107 @@
--- What is left to try, with the best so far, gives what all tries give. Assumes nothing.
-use Prim.Native.Nat.{ℕ, _+_, _-_, _*_, _≤_, _<_}
+-- Test word 0, and then the others. Assumes nothing.
+use Prim.Native.Nat.{ℕ, _^_, _≤_, _<_}
 use native.Mathlib.Omega.{arith}
-use mathlib.Core.Path.{_≡_, ap, sym, _∙_}
+use mathlib.Core.Path.{_≡_, refl, ap, sym, _∙_}
 use mathlib.Core.Bool.{true, false}
-use mathlib.Core.Option.{none, Option·map}
-use borrow.Author.Tests.{not-true, not-false}
-use lib.ListN.{length, getD}
-use Rattle.bch.specs.Words.{Distinct}
-use Rattle.bch.specs.Code.{code}
-use Rattle.bch.proofs.Placing.{positions, Placed}
-use Rattle.bch.proofs.Seeking.{Parts, locatedBy}
-use Rattle.chase.specs.Soft.{candidate, tried, searchFrom, softStage}
-use Rattle.chase.specs.Word.{test}
-use Rattle.chase.proofs.TestSums.{packedSums}
-use Rattle.chase.proofs.Weights.{weighs-small}
-use Rattle.chase.proofs.Ready.{length-candidate, weighed-most}
-use Rattle.chase.proofs.Tries.{try-parts, try-missed, try-distinct, try-some}
-use Rattle.chase.proofs.Steps.{search-start, skip}
-use Rattle.receiver.specs.Search.{flipsOf, pickOf, nearerPick, Weighed, Sound}
-use Rattle.receiver.specs.declared.locate.Flips.{Flips}
-use Rattle.receiver.specs.declared.search.Pick.{Pick}
-use Rattle.receiver.proofs.Outcomes.{pick-none, pick-weighed, turn-sure, turn-near, turn-far, turn-end}
-use borrow.Author.Needs.{needs}
+use mathlib.Core.List.{[], _∷_}
+use lib.ListN.{length}
+use lib.Pow.{pow-pos}
+use Rattle.chase.proofs.Ready.{sums-first, weights-first}
+use Rattle.refusal.specs.Named.{codeOf}
+use Rattle.receiver.specs.Search.{TestWords}
+use Rattle.receiver.proofs.Outcomes.{tried-none, tried-all}
+use Rattle.receiver.proofs.Powers.{powers-part}
 use Rattle.receiver.proofs.search.search.Statement.{statement}
 use Rattle.receiver.proofs.search.search.Tie as tie
+use borrow.Author.Needs.{needs}
 
-abbrev Inv-loop : tie.InvT-loop
-Inv-loop m t n period exps logs powers first second s keys p allowed sums weights all d best₀ tries₀ best tries = (tries ≤ all) × Sound n best × (searchFrom (code m t n) p s (all - tries) tries (pickOf p s best) ≡ softStage (code m t n) p s)
+no-bool : {A : Type 0} → true ≡ false → A
+no-bool e = absurd (let z : _≡_ {A = ℕ} 0 1 = cc in omega arith)
 
-abbrev μ-loop : tie.MeasureT-loop
-μ-loop m t n period exps logs powers first second s keys p allowed sums weights all d best₀ tries₀ best tries = all - tries
+mul-syndromes : tie.Need-mul-syndromes
+mul-syndromes c = search needs
 
--- ---- test word j
+sub-syndromes : tie.Need-sub-syndromes
+sub-syndromes c = search needs
 
-module _ (s : tie.Start Inv-loop μ-loop) (j : ℕ) (h : j < s .args .all) where
-  packs : getD (s .args .sums .now) j 0 ≡ packedSums (s .args .m) (test (s .args .p) (s .args .s .now) j)
-  packs = s .pre .1 .1 .1 .1 .1 .0 j (omega (arith, s .pre .1 .1 .1 .1 .0 .0))
+part-syndromes-start : tie.Need-part-syndromes-start
+part-syndromes-start c = search needs
 
-  -- its syndromes are elements
-  parts : Parts (s .args .m) (getD (s .args .sums .now) j 0)
-  parts = try-parts (s .args .m) (s .args .t) (s .args .n) (s .pre .1 .1 .0 .0) (s .args .first .now) (s .args .second .now) (s .pre .1 .0) (s .args .s .now) (s .args .keys .at) (s .args .p) (s .pre .1 .1 .0 .3) (s .pre .1 .1 .0 .2) j _ packs
+part-syndromes-end : tie.Need-part-syndromes-end
+part-syndromes-end c = search needs
 
-  -- nothing is located for them: it has no candidate
-  missed : locatedBy (s .args .m) (s .args .t) (s .args .n) (s .args .first .now) (s .args .second .now) (getD (s .args .sums .now) j 0) ≡ none
-      → Option·map (candidate (code (s .args .m) (s .args .t) (s .args .n)) (s .args .p) (s .args .s .now) j) (tried (code (s .args .m) (s .args .t) (s .args .n)) (s .args .p) (s .args .s .now) j) ≡ none
-  missed e = try-missed (s .args .m) (s .args .t) (s .args .n) (s .pre .1 .1 .0 .0) (s .args .first .now) (s .args .second .now) (s .pre .1 .0) (s .args .s .now) (s .args .keys .at) (s .args .p) (s .pre .1 .1 .0 .3) (s .pre .1 .1 .0 .2) j _ packs e
+syndromes-requires : tie.Need-syndromes-requires
+syndromes-requires c κs =
+    let s = c .before .before .before in
+    let r = s .pre in
+    let p = powers-part (s .args .c) (s .args .tables .now) (r .filled .fielded) in
+    ((r .filled .fielded .made, p .0, p .1), (r .long, r .deep .ready .symbols))
 
-  module _ (f : Flips) (z : f .found ≡ true)
-      (e : positions (f .found) (f .count) (f .at) ≡ locatedBy (s .args .m) (s .args .t) (s .args .n) (s .args .first .now) (s .args .second .now) (getD (s .args .sums .now) j 0)) where
-    -- what is located is distinct
-    distinct : Distinct (length (s .args .s .now)) (flipsOf f)
-    distinct = rw (s .pre .1 .1 .0 .2) (try-distinct (s .args .m) (s .args .t) (s .args .n) (s .pre .1 .1 .0 .0) (s .args .first .now) (s .args .second .now) (s .pre .1 .0) (s .args .s .now) (s .args .keys .at) (s .args .p) (s .pre .1 .1 .0 .3) (s .pre .1 .1 .0 .2) j _ packs (f .found) (f .count) (f .at) e z)
+slice-aggregate-try-on : tie.Need-slice-aggregate-try-on
+slice-aggregate-try-on c = search needs
 
-    -- the candidate
-    stands : (k : Pick) → Weighed (2 * s .args .t + 1) (s .args .p) (s .args .s .now) (s .args .keys .at) j f k
-        → pickOf (s .args .p) (s .args .s .now) k
-        ≡ Option·map (candidate (code (s .args .m) (s .args .t) (s .args .n)) (s .args .p) (s .args .s .now) j) (tried (code (s .args .m) (s .args .t) (s .args .n)) (s .args .p) (s .args .s .now) j)
-    stands k w =
-        pick-weighed (s .args .p) (s .args .s .now) (2 * s .args .t + 1) (s .args .keys .at) j f k w z
-        ∙ sym (try-some (s .args .m) (s .args .t) (s .args .n) (s .pre .1 .1 .0 .0) (s .args .first .now) (s .args .second .now) (s .pre .1 .0) (s .args .s .now) (s .args .keys .at) (s .args .p) (s .pre .1 .1 .0 .3) (s .pre .1 .1 .0 .2) j _ packs (f .found) (f .count) (f .at) e z (k .q) (k .sum) (k .allowed) (w .weighs) (w .allows))
+slice-aggregate-try-on-2 : tie.Need-slice-aggregate-try-on-2
+slice-aggregate-try-on-2 c = search needs
 
-    -- its numbers are small
-    sound : (k : Pick) → Weighed (2 * s .args .t + 1) (s .args .p) (s .args .s .now) (s .args .keys .at) j f k
-        → Placed (s .args .n) (f .count) (f .at) → Sound (s .args .n) k
-    sound k w l =
-        let deep = s .pre .1 .1 .0 .3 in
-        let small = weighs-small (s .args .s .now) _ (k .q) (k .sum) (deep .ready .most) (length-candidate (s .args .s .now) (s .args .keys .at) (s .args .p) (deep .ready) j (flipsOf f)) (w .weighs) in
-        let most = weighed-most (2 * s .args .t + 1) (s .args .s .now) (s .args .keys .at) (s .args .p) deep (2 * s .args .t + 1 - k .q) (omega arith) in
-        record { placed = rw (w .flips) l; sum-small = omega (arith, small .1); allowed-small = omega (arith, s .pre .1 .1 .0 .0 .t-most, w .allows, most) }
+untried-requires : tie.Need-untried-requires
+untried-requires c κs = search needs
 
--- ---- the turns
-
--- the search from the place that is come to
-skipped : (c : tie.After-next Inv-loop μ-loop)
-    → searchFrom (code (c .before .before .before .before .before .before .before .before .before .before .before .before .before .before .args .m) (c .before .before .before .before .before .before .before .before .before .before .before .before .before .before .args .t) (c .before .before .before .before .before .before .before .before .before .before .before .before .before .before .args .n)) (c .before .before .before .before .before .before .before .before .before .before .before .before .before .before .args .p) (c .before .before .before .before .before .before .before .before .before .before .before .before .before .before .args .s .now) (c .before .before .before .before .before .before .before .before .before .before .before .before .before .before .args .all - c .next .result .at) (c .next .result .at) (pickOf (c .before .before .before .before .before .before .before .before .before .before .before .before .before .before .args .p) (c .before .before .before .before .before .before .before .before .before .before .before .before .before .before .args .s .now) (c .before .before .loop .best))
-    ≡ softStage (code (c .before .before .before .before .before .before .before .before .before .before .before .before .before .before .args .m) (c .before .before .before .before .before .before .before .before .before .before .before .before .before .before .args .t) (c .before .before .before .before .before .before .before .before .before .before .before .before .before .before .args .n)) (c .before .before .before .before .before .before .before .before .before .before .before .before .before .before .args .p) (c .before .before .before .before .before .before .before .before .before .before .before .before .before .before .args .s .now)
-skipped c =
-    let s = c .before .before .before .before .before .before .before .before .before .before .before .before .before .before in
+try-on-requires : tie.Need-try-on-requires
+try-on-requires c κs =
+    let s = c .before .before .before .before .before .before .before in
     let a = s .args in
-    let l = c .before .before .loop in
-    let e = c .next .ensures .0 in
-    let j = c .next .result .at in
-    sym (skip (code (a .m) (a .t) (a .n)) (a .p) (a .s .now) (a .all) (j - l .tries) (l .tries) j (pickOf (a .p) (a .s .now) (l .best)) (omega (arith, e .least)) (e .most) (λ i u v. missed s i (omega (arith, e .most)) (e .missed i u v)))
-    ∙ l .inv .2
+    let r = s .pre in
+    let k = codeOf (a .c) in
+    let base = c .before .before .before .syndromes .result in
+    let tests : TestWords k (a .p) (a .s .now) (base ∷ []) (0 ∷ []) =
+    record {
+      most = pow-pos (a .p);
+      as-many = refl;
+      are-sums = sums-first (a .s .now) (a .keys .at) (a .p) (r .deep .ready) k base (base ∷ []) (c .before .before .before .syndromes .ensures) refl;
+      are-weights = weights-first (a .s .now) (a .keys .at) (a .p) (r .deep .ready) (0 ∷ []) refl;
+    } in
+    let u = c .untried .ensures in
+    ((r, tests), (tried-none k (a .p) (a .s .now) _ u, u .unsure, omega (arith, u .none-made)))
 
--- the candidate that is weighed
-picked : (c : tie.After-weighed Inv-loop μ-loop)
-    → (c .before .before .before .next .result .at < c .before .before .before .before .before .before .before .before .before .before .before .before .before .before .before .before .before .args .all) × (c .weighed .result .flips .found ≡ true)
-    × (pickOf (c .before .before .before .before .before .before .before .before .before .before .before .before .before .before .before .before .before .args .p) (c .before .before .before .before .before .before .before .before .before .before .before .before .before .before .before .before .before .args .s .now) (c .weighed .result) ≡ Option·map (candidate (code (c .before .before .before .before .before .before .before .before .before .before .before .before .before .before .before .before .before .args .m) (c .before .before .before .before .before .before .before .before .before .before .before .before .before .before .before .before .before .args .t) (c .before .before .before .before .before .before .before .before .before .before .before .before .before .before .before .before .before .args .n)) (c .before .before .before .before .before .before .before .before .before .before .before .before .before .before .before .before .before .args .p) (c .before .before .before .before .before .before .before .before .before .before .before .before .before .before .before .before .before .args .s .now) (c .before .before .before .next .result .at)) (tried (code (c .before .before .before .before .before .before .before .before .before .before .before .before .before .before .before .before .before .args .m) (c .before .before .before .before .before .before .before .before .before .before .before .before .before .before .before .before .before .args .t) (c .before .before .before .before .before .before .before .before .before .before .before .before .before .before .before .before .before .args .n)) (c .before .before .before .before .before .before .before .before .before .before .before .before .before .before .before .before .before .args .p) (c .before .before .before .before .before .before .before .before .before .before .before .before .before .before .before .before .before .args .s .now) (c .before .before .before .next .result .at)))
-    × Sound (c .before .before .before .before .before .before .before .before .before .before .before .before .before .before .before .before .before .args .n) (c .weighed .result)
-picked c =
-    let s = c .before .before .before .before .before .before .before .before .before .before .before .before .before .before .before .before .before in
-    let e = c .before .before .before .next in
-    let z = not-false _ (c .before .before .if1 .left) in
-    let t = e .ensures .0 .there z in
-    let w = c .weighed .ensures in
-    let k = c .weighed .result in (
-      t .0,
-      ap (λ (f : Flips). f .found) (w .flips) ∙ z,
-      stands s (e .result .at) (t .0) (e .result .flips) z (t .1) k w,
-      sound s (e .result .at) (t .0) (e .result .flips) z (t .1) k w (e .ensures .1),
-    )
-
-mul-d : tie.Need-mul-d Inv-loop μ-loop
-mul-d c = omega (arith, c .before .before .before .before .before .before .before .before .before .pre .1 .1 .0 .0 .t-most)
-
-add-d : tie.Need-add-d Inv-loop μ-loop
-add-d c = omega (arith, c .before .before .before .before .before .before .before .before .before .pre .1 .1 .0 .0 .t-most)
-
-lost-requires : tie.Need-lost-requires Inv-loop μ-loop
-lost-requires c κs = search needs
-
-nothing-requires : tie.Need-nothing-requires Inv-loop μ-loop
-nothing-requires c κs = search needs
-
-loop-holds : tie.Need-loop-holds Inv-loop μ-loop
-loop-holds c =
-    let s = c .before .before .before .before .before .before .before .before .before .before .before in
-    let a = s .args in
-    let w = code (a .m) (a .t) (a .n) in
-    let e = c .nothing .ensures in
-    let f = c .before .lost .ensures in
-    let found = ap (λ (x : _). x .found) (e .0) ∙ f .0 in (
-      omega arith,
-      record {
-        placed = rw (e .0) (record { few = omega (arith, f .1); long = f .2; inside = λ k h. absurd (omega (arith, f .1)) });
-        sum-small = omega (arith, e .3);
-        allowed-small = omega (arith, e .4);
-      },
-      ap (searchFrom w (a .p) (a .s .now) (a .all - 0) 0) (pick-none (a .p) (a .s .now) (c .nothing .result) found)
-          ∙ ap (λ (n : ℕ). searchFrom w (a .p) (a .s .now) (n - 0) 0 none) (s .pre .1 .1 .1 .1 .0 .0) ∙ search-start w (a .p) (a .s .now),
-    )
-
-next-requires : tie.Need-next-requires Inv-loop μ-loop
-next-requires c κs =
-    let s = c .before .before .before .before .before .before .before .before .before .before .before .before .before in
-    let l = s .pre .1 .1 .0 .0 in
-    let r = s .pre .1 .1 .1 .1 .0 in (
-      s .pre .0,
-      (s .pre .1 .0, ((s .pre .1 .1 .0 .1, l .t-least, l .t-most, l .n-most), (c .before .loop .inv .0, r .1, omega (arith, r), λ j h. parts s j h))),
-    )
-
-returns : tie.Need-returns Inv-loop μ-loop
+returns : tie.Need-returns
 returns c =
-    let a = c .before .before .before .before .before .before .before .before .before .before .before .before .before .before .before .args in
-    let l = c .before .before .before .loop in
-    let e = c .before .next in
-    let z = not-true _ (c .if1 .taken) in
-    (turn-end (a .p) (a .s .now) (code (a .m) (a .t) (a .n)) (a .all) (e .result .at) (l .best) (sym (e .ensures .0 .ended z)) (skipped (c .before)), l .inv .1)
+    let a = c .before .before .before .before .before .before .before .before .before .args in
+    let e = c .before .try-on .ensures in
+    (tried-all (codeOf (a .c)) (a .p) (a .s .now) _ (e .0) (λ z. no-bool (sym (c .if1 .taken) ∙ z)), e .0 .sound)
 
-mul-weighed : tie.Need-mul-weighed Inv-loop μ-loop
-mul-weighed c = omega (arith, c .before .before .before .before .before .before .before .before .before .before .before .before .before .before .before .pre .1 .1 .1 .1 .0, c .before .next .ensures .0 .most)
-
-shared-slice-read-weighed : tie.Need-shared-slice-read-weighed Inv-loop μ-loop
-shared-slice-read-weighed c =
-    let e = c .before .before .next .ensures .0 in
-    omega (arith, c .before .before .before .before .before .before .before .before .before .before .before .before .before .before .before .before .pre .1 .1 .1 .1 .0, e .there (not-false _ (c .before .if1 .left)) .0)
-
-weighed-requires : tie.Need-weighed-requires Inv-loop μ-loop
-weighed-requires c κs =
-    let s = c .before .before .before .before .before .before .before .before .before .before .before .before .before .before .before .before in
-    let e = c .before .before .next in
-    let z = not-false _ (c .before .if1 .left) in
-    let t = e .ensures .0 .there z in
-    let n = s .pre .1 .1 .0 .2 in
-    let d : 2 * s .args .t + 1 ≤ 8 = omega (arith, s .pre .1 .1 .0 .0 .t-most) in
-    let w = s .pre .1 .1 .1 .1 .1 .1 (e .result .at) (omega (arith, t .0, s .pre .1 .1 .1 .1 .0 .0)) in
-    ((s .pre .1 .1 .0 .3, d), (s .pre .1 .1 .1 .0, (w, (rw n (e .ensures .1), distinct s (e .result .at) (t .0) (e .result .flips) z (t .1)))))
-
-add-tries : tie.Need-add-tries Inv-loop μ-loop
-add-tries c = omega (arith, c .before .before .before .before .before .before .before .before .before .before .before .before .before .before .before .before .before .pre .1 .1 .1 .1 .0 .1, picked c .0)
-
-returns-2 : tie.Need-returns-2 Inv-loop μ-loop
+returns-2 : tie.Need-returns-2
 returns-2 c =
-    let a = c .before .before .before .before .before .before .before .before .before .before .before .before .before .before .before .before .before .before .before .args in
-    let k = picked (c .before .before) in
-    (turn-sure (a .p) (a .s .now) (code (a .m) (a .t) (a .n)) (a .all) (c .before .before .before .before .before .next .result .at) (c .before .before .before .before .before .before .before .loop .best) (c .before .before .weighed .result) (k .0) (k .2) (skipped (c .before .before .before .before .before)) (k .1) (c .if2 .taken), k .3)
+    let a = c .before .before .before .before .before .before .before .before .before .before .args in
+    let e = c .before .before .try-on .ensures in
+    let one : 1 ≡ 2 ^ a .p = sym (ap (λ (n : ℕ). 2 ^ n) (c .if2 .taken)) in
+    (tried-all (codeOf (a .c)) (a .p) (a .s .now) _ (e .0) (λ z. e .1 z ∙ one), e .0 .sound)
 
-nearer-requires : tie.Need-nearer-requires Inv-loop μ-loop
-nearer-requires c κs = search needs
+search-on-requires : tie.Need-search-on-requires
+search-on-requires c κs =
+    let s = c .before .before .before .before .before .before .before .before .before .before in
+    let e = c .before .before .try-on .ensures in
+    ((s .pre, c .before .before .before .before .before .before .syndromes .ensures), (e .0, c .before .if1 .left, e .1 (c .before .if1 .left)))
 
-loop-less : tie.Need-loop-less Inv-loop μ-loop
-loop-less c = omega (arith, picked (c .before .before .before .before) .0, c .before .before .before .before .before .before .before .next .ensures .0 .least)
-
-loop-again : tie.Need-loop-again Inv-loop μ-loop
-loop-again c =
-    let a = c .before .before .before .before .before .before .before .before .before .before .before .before .before .before .before .before .before .before .before .before .before .args in
-    let k = picked (c .before .before .before .before) in
-    let near : nearerPick (c .before .before .before .before .before .before .before .before .before .loop .best) (c .before .before .before .before .weighed .result .sum) ≡ true = sym (c .before .nearer .ensures) ∙ c .if3 .taken in (
-      omega (arith, k .0),
-      k .3,
-      turn-near (a .p) (a .s .now) (code (a .m) (a .t) (a .n)) (a .all) (c .before .before .before .before .before .before .before .next .result .at) (c .before .before .before .before .before .before .before .before .before .loop .best) (c .before .before .before .before .weighed .result) (k .0) (k .2) (skipped (c .before .before .before .before .before .before .before)) (k .1) (c .before .before .if2 .left) near,
-    )
-
-loop-less-2 : tie.Need-loop-less-2 Inv-loop μ-loop
-loop-less-2 c = omega (arith, picked (c .before .before .before .before) .0, c .before .before .before .before .before .before .before .next .ensures .0 .least)
-
-loop-again-2 : tie.Need-loop-again-2 Inv-loop μ-loop
-loop-again-2 c =
-    let a = c .before .before .before .before .before .before .before .before .before .before .before .before .before .before .before .before .before .before .before .before .before .args in
-    let k = picked (c .before .before .before .before) in
-    let far : nearerPick (c .before .before .before .before .before .before .before .before .before .loop .best) (c .before .before .before .before .weighed .result .sum) ≡ false = sym (c .before .nearer .ensures) ∙ c .if3 .left in (
-      omega (arith, k .0),
-      c .before .before .before .before .before .before .before .before .before .loop .inv .1,
-      turn-far (a .p) (a .s .now) (code (a .m) (a .t) (a .n)) (a .all) (c .before .before .before .before .before .before .before .next .result .at) (c .before .before .before .before .before .before .before .before .before .loop .best) (c .before .before .before .before .weighed .result) (k .0) (k .2) (skipped (c .before .before .before .before .before .before .before)) (k .1) (c .before .before .if2 .left) far,
-    )
-
-returns-3 : tie.Need-returns-3 Inv-loop μ-loop
+returns-3 : tie.Need-returns-3
 returns-3 c =
-    let a = c .before .before .before .before .before .before .before .before .before .before .before .before .before .args in
-    let l = c .before .loop in
-    (turn-end (a .p) (a .s .now) (code (a .m) (a .t) (a .n)) (a .all) (l .tries) (l .best) (omega arith) (l .inv .2), l .inv .1)
+    let a = c .before .before .before .before .before .before .before .before .before .before .before .args in
+    let e = c .search-on .ensures in
+    (tried-all (codeOf (a .c)) (a .p) (a .s .now) _ (e .0) (e .1), e .0 .sound)
 
 pub search-spec : {M : Type 1} → statement M
 search-spec =
     tie.close
     (tie.spec
-    Inv-loop
-    μ-loop
-    mul-d
-    add-d
-    lost-requires
-    nothing-requires
-    loop-holds
-    next-requires
+    mul-syndromes
+    sub-syndromes
+    part-syndromes-start
+    part-syndromes-end
+    syndromes-requires
+    slice-aggregate-try-on
+    slice-aggregate-try-on-2
+    untried-requires
+    try-on-requires
     returns
-    mul-weighed
-    shared-slice-read-weighed
-    weighed-requires
-    add-tries
     returns-2
-    nearer-requires
-    loop-less
-    loop-again
-    loop-less-2
-    loop-again-2
+    search-on-requires
     returns-3)

@@ -1,0 +1,52 @@
+-- Lost where nothing is found, and otherwise the bits flipped. Assumes nothing.
+use Prim.Native.Nat.{_≤_}
+use native.Mathlib.Omega.{arith}
+use mathlib.Core.Path.{_≡_, sym, ap, _∙_}
+use mathlib.Core.Logic.{inr}
+use mathlib.Core.List.{List}
+use Prim.Native.Nat.{ℕ}
+use borrow.Author.Tests.{not-true, not-false}
+use lib.ListN.{length, take}
+use Rattle.bch.specs.Words.{flippedAt}
+use Rattle.bch.proofs.Repairs.{lost-answer, found-answer}
+use Rattle.refusal.specs.Named.{codeOf}
+use Rattle.receiver.specs.Answer.{hardOf}
+use Rattle.receiver.proofs.hard_stage.write.Statement.{statement}
+use Rattle.receiver.proofs.hard_stage.write.Tie as tie
+use borrow.Author.Needs.{needs}
+
+returns : tie.Need-returns
+unfolding hardOf
+returns c =
+    let s = c .before .before .before in
+    let a = s .args in
+    let f = a .f in
+    let h = lost-answer (codeOf (a .c)) (a .bits .now) (f .found) (f .count) (f .at) (s .pre .1 .0) (not-true _ (c .if1 .taken)) (a .codeword .now) in
+    (ap inr (h .0), h .1)
+
+copy-requires : tie.Need-copy-requires
+copy-requires c κs = search needs
+
+flip-at-requires : tie.Need-flip-at-requires
+flip-at-requires c κs =
+    let s = c .before .before .before .before .before .before .before .before in
+    let e = c .before .before .before .copy .ensures in
+    (rw e (s .pre .0 .2), rw (e, s .pre .0 .0) (s .pre .1 .1 (not-false _ (c .before .before .before .before .before .if1 .left))))
+
+same-length : tie.Need-same-length
+same-length c = search needs
+
+returns-2 : tie.Need-returns-2
+unfolding hardOf
+returns-2 c =
+    let s = c .before .before .before .before .before .before .before .before .before .before .before in
+    let a = s .args in
+    let f = a .f in
+    let z = not-false _ (c .before .before .before .before .before .before .before .before .if1 .left) in
+    let p = s .pre .1 .1 z in
+    let room : f .count ≤ length (f .at) = omega (arith, p .few, p .long) in
+    let h = found-answer (codeOf (a .c)) (a .bits .now) (f .found) (f .count) (f .at) (s .pre .1 .0) z room (a .codeword .now) in
+    (ap inr (h .0), c .before .before .flip-at .ensures ∙ ap (flippedAt (take (f .count) (f .at))) (c .before .before .before .before .before .before .copy .ensures) ∙ h .1)
+
+pub write-spec : {M : Type 1} → statement M
+write-spec = tie.close (tie.spec returns copy-requires flip-at-requires same-length returns-2)

@@ -1,0 +1,13 @@
+-- No position is found, and nothing is lost. Assumes nothing.
+use native.Mathlib.Omega.{arith}
+use mathlib.Core.Path.{refl}
+use Rattle.bch.proofs.Placing.{positions}
+use Rattle.receiver.proofs.locate.clean.Statement.{statement}
+use Rattle.receiver.proofs.locate.clean.Tie as tie
+
+returns : tie.Need-returns
+unfolding positions
+returns c = (refl, refl, omega arith)
+
+pub clean-spec : {M : Type 1} → statement M
+clean-spec = tie.close (tie.spec returns)

@@ -1,0 +1,13 @@
+-- This function meets its contract. Assumes nothing.
+use native.Mathlib.Omega.{arith}
+use mathlib.Core.Path.{refl}
+use Rattle.bch.proofs.Placing.{positions}
+use Rattle.receiver.proofs.locate.lost.Statement.{statement}
+use Rattle.receiver.proofs.locate.lost.Tie as tie
+
+returns : tie.Need-returns
+unfolding positions
+returns c = (refl, refl, omega arith)
+
+pub lost-spec : {M : Type 1} → statement M
+lost-spec = tie.close (tie.spec returns)

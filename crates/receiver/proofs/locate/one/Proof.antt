@@ -1,0 +1,21 @@
+-- This function meets its contract. Assumes nothing.
+use mathlib.Core.Path.{refl, _∙_}
+use native.Mathlib.Omega.{arith}
+use borrow.Author.Needs.{needs}
+use Rattle.bch.proofs.Placing.{positions}
+use Rattle.bch.proofs.LogSteps.{one-lost, one-found}
+use Rattle.receiver.proofs.locate.one.Statement.{statement}
+use Rattle.receiver.proofs.locate.one.Tie as tie
+
+lost-requires : tie.Need-lost-requires
+lost-requires c κs = search needs
+
+returns : tie.Need-returns
+returns c = let a = c .before .before .before .args in (c .lost .ensures .0 ∙ one-lost (a .c .n) (a .x) (c .before .if1 .taken), c .lost .ensures .1, c .lost .ensures .2)
+
+returns-2 : tie.Need-returns-2
+unfolding positions
+returns-2 c = let a = c .before .before .args in (one-found (a .c .n) (a .x) (omega arith), refl, omega arith)
+
+pub one-spec : {M : Type 1} → statement M
+one-spec = tie.close (tie.spec lost-requires returns returns-2)

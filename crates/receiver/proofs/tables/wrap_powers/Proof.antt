@@ -1,0 +1,77 @@
+-- This function meets its contract. Assumes nothing.
+use Prim.Native.Nat.{ℕ, _+_, _-_, _^_, _≤_}
+use mathlib.Core.Path.{_≡_, refl, ap}
+use native.Mathlib.Omega.{arith}
+use borrow.Author.Needs.{needs}
+use Rattle.bch.proofs.TableFills.{FieldPart, stage}
+use Rattle.bch.proofs.TableLoops.{powers-again, field-filled, roots-empty}
+use lib.ListN.{length, getD, length-set}
+use Rattle.galois.proofs.Primitive.{Primitive, primitive-5-10}
+use mathlib.Core.Path.{subst}
+use Rattle.receiver.proofs.tables.wrap_powers.Statement.{statement}
+use Rattle.receiver.proofs.tables.wrap_powers.Tie as tie
+
+abbrev Inv-loop : tie.InvT-loop
+Inv-loop tables₀ m t period from i₀ tables i = (i ≤ 8) × (length tables ≡ length tables₀) × FieldPart m (stage m t) (2 ^ m - 1 + i) tables
+
+abbrev μ-loop : tie.MeasureT-loop
+μ-loop tables₀ m t period from i₀ tables i = 8 - i
+
+loop-holds : tie.Need-loop-holds Inv-loop μ-loop
+loop-holds c = let s = c in let a = s .args in let m = a .c .m in let k : 2 ^ m - 1 ≡ 2 ^ m - 1 + 0 = omega arith in (omega arith, refl, subst (λ (j : ℕ). FieldPart m (stage m (a .c .t)) j (a .tables .now)) k (s .pre .1))
+
+add-x : tie.Need-add-x Inv-loop μ-loop
+add-x c = search needs
+
+mul-x : tie.Need-mul-x Inv-loop μ-loop
+mul-x c = search needs
+
+slice-read-x : tie.Need-slice-read-x Inv-loop μ-loop
+slice-read-x c = search needs
+
+add-tables : tie.Need-add-tables Inv-loop μ-loop
+add-tables c = search needs
+
+add-tables-2 : tie.Need-add-tables-2 Inv-loop μ-loop
+add-tables-2 c = search needs
+
+mul-tables : tie.Need-mul-tables Inv-loop μ-loop
+mul-tables c = search needs
+
+slice-write-tables : tie.Need-slice-write-tables Inv-loop μ-loop
+slice-write-tables c = search needs
+
+add-i : tie.Need-add-i Inv-loop μ-loop
+add-i c = search needs
+
+loop-less : tie.Need-loop-less Inv-loop μ-loop
+loop-less c = search needs
+
+loop-again : tie.Need-loop-again Inv-loop μ-loop
+loop-again c = let s = c .before .before .before in let a = s .args in let m = a .c .m in let g : Primitive m = primitive-5-10 m (s .pre .0 .lawful .m-least) (s .pre .0 .lawful .m-most) in let l = c .before .before .loop in let k : a .c .powers + l .i ≡ 2 ^ m + l .i = omega arith in (omega arith, simp length-set (l .inv .1), powers-again m g (a .c .t) (l .i) _ _ (l .tables) (c .before .loop-test .taken) (omega arith) (ap (λ (j : ℕ). getD (l .tables) j 0) k) (l .inv .2))
+
+same-length : tie.Need-same-length Inv-loop μ-loop
+same-length c = search needs
+
+returns : tie.Need-returns Inv-loop μ-loop
+returns c = let s = c .before .before in let a = s .args in let m = a .c .m in let l = c .before .loop in let e : l .i ≡ 8 = omega arith in (field-filled m (a .c .t) (l .i) (l .tables) (omega arith) e (l .inv .2), roots-empty m (a .c .t) (l .i) (l .tables) (omega arith) e (l .inv .2))
+
+pub wrap-powers-spec : {M : Type 1} → statement M
+wrap-powers-spec =
+    tie.close
+    (tie.spec
+    Inv-loop
+    μ-loop
+    loop-holds
+    add-x
+    mul-x
+    slice-read-x
+    add-tables
+    add-tables-2
+    mul-tables
+    slice-write-tables
+    add-i
+    loop-less
+    loop-again
+    same-length
+    returns)

@@ -1,0 +1,22 @@
+-- The positions that are located, as a record. Cited by the contracts of private functions alone. Assumes nothing.
+use Prim.Native.Nat.{ℕ, _≤_, _<_}
+use mathlib.Core.Path.{_≡_}
+use mathlib.Core.List.{List}
+use mathlib.Core.Option.{Option}
+use lib.ListN.{length, getD, take}
+use Rattle.bch.proofs.LogBounds.{Syndromes}
+use Rattle.bch.proofs.Placing.{positions}
+use Rattle.refusal.specs.declared.Code as refusal
+use Rattle.receiver.specs.declared.locate.Flips.{Flips}
+
+-- the positions of a record
+abbrev pub flipsOf : Flips → List ℕ
+flipsOf f = take (f .count) (f .at)
+
+-- they are those found, or none is
+abbrev pub Located : Flips → Option (List ℕ) → Type 0
+Located f o = (positions (f .found) (f .count) (f .at) ≡ o) × (length (f .at) ≡ 3) × (f .count ≤ 3)
+
+-- each number is the first t syndromes of a word
+abbrev pub AreSyndromes : refusal.Code → List ℕ → Type 0
+AreSyndromes c sums = (j : ℕ) → j < length sums → Syndromes (c .m) (c .t) (getD sums j 0)

@@ -1,0 +1,144 @@
+// The hard stage of one word: its syndromes, the positions to flip, and only then the codeword.
+ghost use mathlib.Core.Path.{_≡_};
+ghost use mathlib.Core.Logic.{inr};
+ghost use mathlib.Core.Bool.{true};
+ghost use Prim.Native.Nat.{_+_, _-_, _*_, _^_, _<_, _≤_};
+ghost use lib.ListN.{length, take};
+ghost use Rattle.galois.proofs.FieldTables.{Zeros};
+ghost use Rattle.bch.specs.Words.{Bits, flippedAt};
+ghost use Rattle.bch.specs.Hard.{hardFlips, hardWritten};
+ghost use Rattle.bch.proofs.LogAnswers.{syndromesOf};
+ghost use Rattle.bch.proofs.Placing.{Placed};
+ghost use Rattle.bch.proofs.Repairs.{Repairs};
+ghost use Rattle.bch.proofs.SyndromeSums.{PowersAt};
+ghost use Rattle.take_format.specs.Refusal.{bitsCheck};
+ghost use Rattle.take_format.specs.Calls.{answered, unlessRefused};
+ghost use Rattle.refusal.specs.Named.{codeOf, Made};
+ghost use Rattle.receiver.specs.Answer.{hardOf};
+ghost use Rattle.receiver.specs.Located.{flipsOf};
+use crate::Hard;
+use crate::locate;
+use crate::locate::Flips;
+use crate::tables;
+use refusal::Check;
+use refusal::Code;
+
+// x where the bit is 1, and 0 where it is 0. (A mask: a choice would become a branch for the positions that are left over where the
+// compiler takes several at once.)
+pub fn where_set(bit: u8, x: u32) -> u32
+    requires { ⌜ bit < 2 ⌝ }
+    ensures { λ r. ⌜ r ≡ bit * x ⌝ }
+{
+    (bit as u32) * 4294967295 & x
+}
+
+// The first t syndromes in one number, in one pass without branches; the powers are by position.
+fn syndromes(c: Code, powers: &[u32], bits: &[u8]) -> u32
+    requires { ⌜ Made c × PowersAt (c .m) (c .t) (now powers) × (2 ^ c .m - 1 ≤ length (now powers)) ⌝ }
+    requires { ⌜ (length (now bits) ≡ c .n) × Bits (now bits) ⌝ }
+    ensures { λ r. ⌜ r ≡ syndromesOf (codeOf c) (now (bits .entry)) ⌝ }
+{
+    let m = c.m;
+    let t = c.t;
+    let mut acc: u32 = 0;
+    let mut i = 0;
+    while i < bits.len() {
+        acc = acc ^ where_set(bits[i], powers[i]);
+        i += 1;
+    }
+    acc
+}
+
+// Copies the bits.
+pub fn copy(bits: &[u8], out: &mut [u8])
+    requires { ⌜ length (now out) ≡ length (now bits) ⌝ }
+    ensures { λ _. ⌜ now (out .exit) ≡ now (bits .entry) ⌝ }
+{
+    let mut i = 0;
+    while i < bits.len() {
+        out[i] = bits[i];
+        i += 1;
+    }
+}
+
+// Flips the bits at the positions.
+pub fn flip_at(out: &mut [u8], f: Flips)
+    requires { ⌜ Bits (now out) × Placed (length (now out)) (f .count) (f .at) ⌝ }
+    ensures { λ _. ⌜ now (out .exit) ≡ flippedAt (flipsOf f) (now (out .entry)) ⌝ }
+{
+    let count = f.count;
+    let places = f.at;
+    let mut i = 0;
+    while i < count {
+        let p = locate::entry_of(places, i);
+        out[p] = 1 - out[p];
+        i += 1;
+    }
+}
+
+// The bits flipped at the positions that the hard stage flips, where it does.
+fn write(c: Code, f: Flips, bits: &[u8], codeword: &mut [u8]) -> Hard
+    requires { ⌜ (length (now bits) ≡ c .n) × (length (now codeword) ≡ c .n) × Bits (now bits) ⌝ }
+    requires { ⌜ Repairs (codeOf c) (now bits) (f .found) (f .count) (f .at) × (f .found ≡ true → Placed (c .n) (f .count) (f .at)) ⌝ }
+    ensures { λ r. ⌜ hardOf r ≡ inr (hardFlips (codeOf c) (now (bits .entry))) ⌝ }
+    ensures { λ _. ⌜ now (codeword .exit) ≡ hardWritten (codeOf c) (now (bits .entry)) (now (codeword .entry)) ⌝ }
+{
+    let found = f.found;
+    if !found {
+        return Hard::Lost;
+    }
+    copy(bits, codeword);
+    flip_at(codeword, f);
+    Hard::Found(f.count)
+}
+
+// The hard stage, with room for its tables. The roots are filled only where there is more than one error.
+fn decode_in(c: Code, tables: &mut [u32], bits: &[u8], codeword: &mut [u8]) -> Hard
+    requires { ⌜ Made c × (3 * 2 ^ c .m + 16 ≤ length (now tables)) × Zeros (now tables) ⌝ }
+    requires { ⌜ (length (now bits) ≡ c .n) × (length (now codeword) ≡ c .n) × Bits (now bits) ⌝ }
+    ensures { λ r. ⌜ hardOf r ≡ inr (hardFlips (codeOf c) (now (bits .entry))) ⌝ }
+    ensures { λ _. ⌜ now (codeword .exit) ≡ hardWritten (codeOf c) (now (bits .entry)) (now (codeword .entry)) ⌝ }
+{
+    tables::fill_field(c, tables);
+    let from = c.powers;
+    let s = syndromes(c, &tables[from..], bits);
+    if locate::rest_of(c, tables, s) == 0 {
+        let f = locate::few(c, tables, s);
+        return write(c, f, bits, codeword);
+    }
+    tables::fill_roots(c, tables);
+    let sums = [s];
+    let e = locate::next(c, tables, &sums, 0);
+    write(c, e.flips, bits, codeword)
+}
+
+// The hard stage, with tables of its own, as large as m asks for.
+fn decode_with(c: Code, bits: &[u8], codeword: &mut [u8]) -> Hard
+    requires { ⌜ Made c × (length (now bits) ≡ c .n) × (length (now codeword) ≡ c .n) × Bits (now bits) ⌝ }
+    ensures { λ r. ⌜ hardOf r ≡ inr (hardFlips (codeOf c) (now (bits .entry))) ⌝ }
+    ensures { λ _. ⌜ now (codeword .exit) ≡ hardWritten (codeOf c) (now (bits .entry)) (now (codeword .entry)) ⌝ }
+{
+    if c.m <= 6 {
+        let mut tables = [0u32; 208];
+        return decode_in(c, &mut tables, bits, codeword);
+    }
+    if c.m <= 8 {
+        let mut tables = [0u32; 784];
+        return decode_in(c, &mut tables, bits, codeword);
+    }
+    let mut tables = [0u32; 3088];
+    decode_in(c, &mut tables, bits, codeword)
+}
+
+// The bits and the room for the codeword are checked, 6, 7, 8, and then decoded.
+pub fn decode(c: Code, bits: &[u8], codeword: &mut [u8]) -> Hard
+    requires { ⌜ Made c ⌝ }
+    ensures { λ r. ⌜ hardOf r ≡ answered (bitsCheck (c .n) (c .n) (now (bits .entry)) (length (now (codeword .entry)))) (hardFlips (codeOf c) (now (bits .entry))) ⌝ }
+    ensures { λ _. ⌜ now (codeword .exit) ≡ unlessRefused (bitsCheck (c .n) (c .n) (now (bits .entry)) (length (now (codeword .entry)))) (now (codeword .entry)) (hardWritten (codeOf c) (now (bits .entry)) (now (codeword .entry))) ⌝ }
+{
+    let n = c.length();
+    match refusal::bits(n, n, bits, codeword.len()) {
+        Check::Refused(r) => Hard::Refused(r),
+        Check::Passed => decode_with(c, bits, codeword),
+    }
+}

@@ -1,0 +1,174 @@
+// The soft stage of one word: rank, search, and only then write.
+ghost use mathlib.Core.Path.{_≡_};
+ghost use mathlib.Core.Logic.{inr};
+ghost use Prim.Native.Nat.{_-_, _*_, _+_, _^_, _<_, _≤_};
+ghost use lib.IntN.{subℕ};
+ghost use lib.ListN.{length};
+ghost use Rattle.galois.proofs.FieldTables.{Zeros};
+ghost use Rattle.bch.specs.Words.{Bits, Distinct, flippedAt};
+ghost use Rattle.bch.proofs.Placing.{Placed};
+ghost use Rattle.chase.specs.Soft.{hardBits, testWord, softStage, softWritten};
+ghost use Rattle.chase.specs.Word.{test, Symbols};
+ghost use Rattle.chase.proofs.Ready.{Ready, placesOf};
+ghost use Rattle.take_format.specs.Refusal.{symbolsCheck};
+ghost use Rattle.take_format.specs.Calls.{answered, unlessRefused};
+ghost use Rattle.refusal.specs.Named.{codeOf, Made};
+ghost use Rattle.receiver.specs.Answer.{softOf};
+ghost use Rattle.receiver.specs.Located.{flipsOf};
+ghost use Rattle.receiver.specs.Search.{outcomeOf, Sound, told};
+ghost use Rattle.receiver.specs.Tables.{Filled};
+use crate::Soft;
+use crate::hard_stage;
+use crate::locate::Flips;
+use crate::ranking;
+use crate::ranking::Keys;
+use crate::search;
+use crate::search::Outcome;
+use crate::tables;
+use refusal::Check;
+use refusal::Code;
+
+// The hard bits of the symbols.
+fn write_bits(s: &[u8], out: &mut [u8])
+    requires { ⌜ length (now out) ≡ length (now s) ⌝ }
+    ensures { λ _. ⌜ now (out .exit) ≡ hardBits (now (s .entry)) ⌝ }
+{
+    let mut i = 0;
+    while i < s.len() {
+        out[i] = s[i] / 16;
+        i += 1;
+    }
+}
+
+// Flips the weak positions that test word j flips.
+fn flip_weak(out: &mut [u8], keys: Keys, p: usize, j: usize)
+    requires { ⌜ Bits (now out) × (p ≤ 8) × (length (keys .at) ≡ 8) × Distinct (length (now out)) (placesOf (keys .at) p) ⌝ }
+    ensures { λ _. ⌜ now (out .exit) ≡ testWord j (placesOf (keys .at) p) (now (out .entry)) ⌝ }
+{
+    let at = keys.at;
+    let mut r = j;
+    let mut k = 0;
+    while k < p {
+        if r % 2 == 1 {
+            let x = ranking::place_of(at[k]);
+            out[x] = 1 - out[x];
+        }
+        r = r / 2;
+        k += 1;
+    }
+}
+
+// The codeword of a candidate: test word j flipped at f.
+fn write_word(s: &[u8], keys: Keys, p: usize, j: usize, f: Flips, out: &mut [u8])
+    requires { ⌜ Ready (now s) (keys .at) p ⌝ }
+    requires { ⌜ (length (now out) ≡ length (now s)) × Placed (length (now s)) (f .count) (f .at) ⌝ }
+    ensures { λ _. ⌜ now (out .exit) ≡ flippedAt (flipsOf f) (test p (now (s .entry)) j) ⌝ }
+{
+    write_bits(s, out);
+    flip_weak(out, keys, p, j);
+    hard_stage::flip_at(out, f);
+}
+
+// A - L.
+fn margin(a: u32, l: u32) -> i32
+    requires { ⌜ (a < 65536) × (l < 65536) ⌝ }
+    ensures { λ r. ⌜ r ≡ subℕ a l ⌝ }
+{
+    a as i32 - l as i32
+}
+
+// The outcome of the search as the caller's answer.
+fn tell(o: Outcome) -> Soft
+    requires { ⌜ (o .pick .sum < 65536) × (o .pick .allowed < 65536) ⌝ }
+    ensures { λ r. ⌜ r ≡ told o ⌝ }
+{
+    let located = o.pick.flips.found;
+    if !located {
+        return Soft::Lost { tries: o.tries };
+    }
+    let distance = o.pick.sum as usize;
+    let flips = o.pick.q as usize;
+    let gap = margin(o.pick.allowed, o.pick.sum);
+    if o.sure {
+        return Soft::Sure {
+            distance: distance,
+            margin: gap,
+            flips: flips,
+            place: o.pick.place,
+            tries: o.tries,
+        };
+    }
+    Soft::Fair {
+        distance: distance,
+        margin: gap,
+        flips: flips,
+        place: o.pick.place,
+        tries: o.tries,
+    }
+}
+
+// How many keys a word needs: p for its weak positions, and d for A.
+fn more(d: usize, p: usize) -> usize
+    requires { ⌜ (d ≤ 8) × (p ≤ 8) ⌝ }
+    ensures { λ r. ⌜ (d ≤ r) × (p ≤ r) × (r ≤ 8) ⌝ }
+{
+    if d < p { p } else { d }
+}
+
+// The soft stage with tables that are filled: the outcome is known before the buffer is written.
+pub fn decode_word(c: Code, tables: &[u32], p: usize, s: &[u8], codeword: &mut [u8]) -> Outcome
+    requires { ⌜ Filled c (now tables) × (p ≤ 6) × (length (now s) ≡ c .n) × (length (now codeword) ≡ c .n) × Symbols (now s) ⌝ }
+    ensures { λ r. ⌜ (outcomeOf p (now (s .entry)) r ≡ softStage (codeOf c) p (now (s .entry))) × Sound (c .n) (r .pick) ⌝ }
+    ensures { λ _. ⌜ now (codeword .exit) ≡ softWritten (softStage (codeOf c) p (now (s .entry))) (now (codeword .entry)) ⌝ }
+{
+    let keys = ranking::rank(s, more(c.distance(), p));
+    let o = search::search(c, tables, s, keys, p);
+    let found = o.pick.flips.found;
+    if !found {
+        return o;
+    }
+    write_word(s, keys, p, o.pick.place, o.pick.flips, codeword);
+    o
+}
+
+// The soft stage, with room for its tables.
+fn decode_in(c: Code, tables: &mut [u32], p: usize, s: &[u8], codeword: &mut [u8]) -> Soft
+    requires { ⌜ Made c × (3 * 2 ^ c .m + 16 ≤ length (now tables)) × Zeros (now tables) ⌝ }
+    requires { ⌜ (p ≤ 6) × (length (now s) ≡ c .n) × (length (now codeword) ≡ c .n) × Symbols (now s) ⌝ }
+    ensures { λ r. ⌜ softOf r (now (codeword .exit)) ≡ inr (softStage (codeOf c) p (now (s .entry))) ⌝ }
+    ensures { λ _. ⌜ now (codeword .exit) ≡ softWritten (softStage (codeOf c) p (now (s .entry))) (now (codeword .entry)) ⌝ }
+{
+    tables::fill_field(c, tables);
+    tables::fill_roots(c, tables);
+    tell(decode_word(c, tables, p, s, codeword))
+}
+
+// The soft stage, with tables of its own, as large as m asks for.
+fn decode_with(c: Code, p: usize, s: &[u8], codeword: &mut [u8]) -> Soft
+    requires { ⌜ Made c × (p ≤ 6) × (length (now s) ≡ c .n) × (length (now codeword) ≡ c .n) × Symbols (now s) ⌝ }
+    ensures { λ r. ⌜ softOf r (now (codeword .exit)) ≡ inr (softStage (codeOf c) p (now (s .entry))) ⌝ }
+    ensures { λ _. ⌜ now (codeword .exit) ≡ softWritten (softStage (codeOf c) p (now (s .entry))) (now (codeword .entry)) ⌝ }
+{
+    if c.m <= 6 {
+        let mut tables = [0u32; 208];
+        return decode_in(c, &mut tables, p, s, codeword);
+    }
+    if c.m <= 8 {
+        let mut tables = [0u32; 784];
+        return decode_in(c, &mut tables, p, s, codeword);
+    }
+    let mut tables = [0u32; 3088];
+    decode_in(c, &mut tables, p, s, codeword)
+}
+
+// The depth, the symbols and the room for the codeword are checked, 4, 6, 7, 9, and then decoded.
+pub fn decode(c: Code, p: usize, s: &[u8], codeword: &mut [u8]) -> Soft
+    requires { ⌜ Made c ⌝ }
+    ensures { λ r. ⌜ softOf r (now (codeword .exit)) ≡ answered (symbolsCheck p (c .n) (now (s .entry)) (length (now (codeword .entry)))) (softStage (codeOf c) p (now (s .entry))) ⌝ }
+    ensures { λ _. ⌜ now (codeword .exit) ≡ unlessRefused (symbolsCheck p (c .n) (now (s .entry)) (length (now (codeword .entry)))) (now (codeword .entry)) (softWritten (softStage (codeOf c) p (now (s .entry))) (now (codeword .entry))) ⌝ }
+{
+    match refusal::symbols(p, c.length(), s, codeword.len()) {
+        Check::Refused(r) => Soft::Refused(r),
+        Check::Passed => decode_with(c, p, s, codeword),
+    }
+}

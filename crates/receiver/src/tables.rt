@@ -1,0 +1,267 @@
+// The tables of a code, in one slice of 3·2^m + 16 numbers.
+//
+// By element x, 2^m entries: the logarithm of x. (That of 0 is an exponent of its own, whose powers are 0.)
+// By exponent i, from `powers` on, 2^m + 8 entries: α^i, α^3i and α^5i in one number, as many of them as t says.
+// By exponent e, from `roots` on, 2^m + 8 entries: the logarithms of two roots in one number, 0 where there are none. For t = 2 they are
+// those of w and w + 1, where w^2 + w = α^e; for t = 3 those of the last two w where w^3 = α^e (w + 1).
+//
+// A sum of exponents is folded once, and is then at most seven beyond the period: so the first eight entries stand again behind it.
+ghost use mathlib.Core.Path.{_≡_};
+ghost use mathlib.Core.Logic.{_≢_};
+ghost use Prim.Native.Nat.{ℕ, _+_, _-_, _*_, _/_, _%_, _<_, _≤_, _^_};
+ghost use lib.ListN.{length, getD};
+ghost use Rattle.galois.specs.Field.{alpha, double, poly};
+ghost use Rattle.galois.proofs.FieldTables.{Zeros};
+ghost use Rattle.bch.proofs.CodeTables.{folded, reduced as CodeTables·reduced, logIn, powersIn, rootsIn, PairRoots, TrioRoots, CodeTables};
+ghost use Rattle.bch.proofs.RootFills.{behind as RootFills·behind};
+ghost use Rattle.bch.proofs.TableFills.{FieldPart, stage, Adds};
+ghost use Rattle.bch.proofs.TableLoops.{FieldFilled, RootPart, Rootless};
+ghost use Rattle.refusal.specs.Named.{Made};
+ghost use Rattle.receiver.specs.Tables.{Fielded, Filled};
+use refusal::Code;
+
+// An exponent below eight periods, folded: 2^m and 1 are the same exponent.
+pub fn fold(c: Code, x: usize) -> usize
+    requires { ⌜ Made c × (x < 8 * (2 ^ c .m - 1)) ⌝ }
+    ensures { λ r. ⌜ (r ≡ folded (c .m) x) × (r < 2 ^ c .m + 7) ⌝ }
+{
+    (x & c.period) + (x >> c.m)
+}
+
+// An exponent below two periods, below one.
+pub fn reduced(period: usize, e: usize) -> usize
+    ensures { λ r. ⌜ (r ≡ CodeTables·reduced period e) × (e < 2 * period → r < period) ⌝ }
+{
+    if e < period { e } else { e - period }
+}
+
+// The logarithm of x.
+pub fn log_of(c: Code, tables: &[u32], x: usize) -> usize
+    requires { ⌜ Fielded c (now tables) × (x < 2 ^ c .m) ⌝ }
+    ensures { λ r. ⌜ (r ≡ logIn (now (tables .entry)) x) × (r ≤ 2 ^ c .m + 7) × (x ≢ 0 → r < 2 ^ c .m - 1) ⌝ }
+{
+    tables[x] as usize
+}
+
+// α^e, α^3e and α^5e, of an exponent that is folded.
+pub fn powers_of(c: Code, tables: &[u32], e: usize) -> u32
+    requires { ⌜ Fielded c (now tables) × (e ≤ 2 ^ c .m + 7) ⌝ }
+    ensures { λ r. ⌜ r ≡ powersIn (c .m) (now (tables .entry)) e ⌝ }
+{
+    let at = c.powers + e;
+    tables[at]
+}
+
+// The logarithms of two roots, of an exponent that is folded.
+pub fn roots_of(c: Code, tables: &[u32], e: usize) -> u32
+    requires { ⌜ Filled c (now tables) × (e < 2 ^ c .m + 7) ⌝ }
+    ensures { λ r. ⌜ r ≡ rootsIn (c .m) (now (tables .entry)) e ⌝ }
+{
+    let at = c.roots + e;
+    tables[at]
+}
+
+// A number in 32 bits.
+fn narrow(x: usize) -> u32
+    requires { ⌜ x < 4294967296 ⌝ }
+    ensures { λ r. ⌜ r ≡ x ⌝ }
+{
+    x as u32
+}
+
+// A number in 64 bits.
+fn wide(x: u32) -> usize
+    ensures { λ r. ⌜ r ≡ x ⌝ }
+{
+    x as usize
+}
+
+// α times a.
+fn twice(m: usize, top: usize, g: usize, a: usize) -> usize
+    requires { ⌜ (5 ≤ m) × (m ≤ 10) × (top ≡ 2 ^ m) × (g ≡ poly m) × (a < 2 ^ m) ⌝ }
+    ensures { λ r. ⌜ (r ≡ double m a) × (r < 2 ^ m) ⌝ }
+{
+    let y = 2 * a;
+    if y < top { y } else { y ^ g }
+}
+
+// The logarithms, and the powers below the period.
+fn fill_logs(c: Code, tables: &mut [u32])
+    requires { ⌜ Made c × (3 * 2 ^ c .m + 16 ≤ length (now tables)) × Zeros (now tables) ⌝ }
+    ensures { λ _. ⌜ FieldPart (c .m) (alpha (c .m)) (2 ^ c .m - 1) (now (tables .exit)) ⌝ }
+{
+    let m = c.m;
+    let g = c.polynomial;
+    let period = c.period;
+    let powers = c.powers;
+    let mut x = 1;
+    let mut i = 0;
+    while i < period {
+        tables[x] = narrow(i);
+        tables[powers + i] = narrow(x);
+        x = twice(m, powers, g, x);
+        i += 1;
+    }
+    tables[0] = narrow(period + 8);
+}
+
+// Adds α^(d i), times the scale, to each power i: as many powers as t + 1 says, from as many as t says.
+fn add_powers(c: Code, t: usize, d: usize, scale: u32, tables: &mut [u32])
+    requires { ⌜ Made c × Adds (c .m) t d scale × FieldPart (c .m) (stage (c .m) t) (2 ^ c .m - 1) (now tables) ⌝ }
+    ensures { λ _. ⌜ FieldPart (c .m) (stage (c .m) (t + 1)) (2 ^ c .m - 1) (now (tables .exit)) ⌝ }
+{
+    let m = c.m;
+    let period = c.period;
+    let powers = c.powers;
+    let mut e = 0;
+    let mut i = 0;
+    while i < period {
+        while e < period {
+            let x = tables[powers + e] % 1024;
+            let y = tables[powers + i];
+            tables[powers + i] = y + scale * x;
+            e += d;
+            i += 1;
+        }
+        e -= period;
+    }
+}
+
+// As many powers as t says, from the first.
+fn fill_powers(c: Code, tables: &mut [u32])
+    requires { ⌜ Made c × FieldPart (c .m) (alpha (c .m)) (2 ^ c .m - 1) (now tables) ⌝ }
+    ensures { λ _. ⌜ FieldPart (c .m) (stage (c .m) (c .t)) (2 ^ c .m - 1) (now (tables .exit)) ⌝ }
+{
+    let t = c.t;
+    if t == 1 {
+        return;
+    }
+    add_powers(c, 1, 3, 1024, tables);
+    if t == 2 {
+        return;
+    }
+    add_powers(c, 2, 5, 1048576, tables);
+}
+
+// The first eight powers again behind the period.
+fn wrap_powers(c: Code, tables: &mut [u32])
+    requires { ⌜ Made c × FieldPart (c .m) (stage (c .m) (c .t)) (2 ^ c .m - 1) (now tables) ⌝ }
+    ensures { λ _. ⌜ FieldFilled (c .m) (c .t) (now (tables .exit)) × Rootless (c .m) (now (tables .exit)) ⌝ }
+{
+    let m = c.m;
+    let t = c.t;
+    let period = c.period;
+    let from = c.powers;
+    let mut i = 0;
+    while i < 8 {
+        let x = tables[from + i];
+        tables[from + period + i] = x;
+        i += 1;
+    }
+}
+
+// For w^2 + w, by its logarithm: the logarithms of w and w + 1.
+fn fill_quadratics(c: Code, tables: &mut [u32])
+    requires { ⌜ Made c × FieldFilled (c .m) (c .t) (now tables) × PairRoots (c .m) 2 (rootsIn (c .m) (now tables)) ⌝ }
+    ensures { λ _. ⌜ FieldFilled (c .m) (c .t) (now (tables .exit)) × PairRoots (c .m) (2 ^ c .m) (rootsIn (c .m) (now (tables .exit))) ⌝ }
+{
+    let m = c.m;
+    let t = c.t;
+    let period = c.period;
+    let roots = c.roots;
+    let mut w = 2;
+    while w < period {
+        let a = tables[w];
+        let b = tables[w + 1];
+        let e = reduced(period, wide(a) + wide(b));
+        tables[roots + e] = a + 1024 * b;
+        w += 2;
+    }
+}
+
+// e - d below the period.
+fn behind(e: usize, d: usize, period: usize) -> usize
+    requires { ⌜ (e < period) × (d < period) × (period ≤ 1024) ⌝ }
+    ensures { λ r. ⌜ (r ≡ RootFills·behind period e d) × (r < period) ⌝ }
+{
+    if d <= e { e - d } else { e + period - d }
+}
+
+// For w^3 / (w + 1), by its logarithm: the logarithms of two such w, the last ones.
+fn fill_kappas(c: Code, tables: &mut [u32])
+    requires { ⌜ Made c × FieldFilled (c .m) (c .t) (now tables) × TrioRoots (c .m) 1 (rootsIn (c .m) (now tables)) ⌝ }
+    ensures { λ _. ⌜ FieldFilled (c .m) (c .t) (now (tables .exit)) × TrioRoots (c .m) (2 ^ c .m - 1) (rootsIn (c .m) (now (tables .exit))) ⌝ }
+{
+    let m = c.m;
+    let t = c.t;
+    let period = c.period;
+    let powers = c.powers;
+    let roots = c.roots;
+    let mut e = 3;
+    let mut l = 1;
+    while l < period {
+        while e < period {
+            let v = tables[powers + l] % 1024 ^ 1;
+            let x = wide(v);
+            let b = wide(tables[x]);
+            let at = roots + behind(e, b, period);
+            let y = tables[at] % 1024;
+            tables[at] = y * 1024 + narrow(l);
+            e += 3;
+            l += 1;
+        }
+        e -= period;
+    }
+}
+
+// The roots that t asks for.
+fn fill_solutions(c: Code, tables: &mut [u32])
+    requires { ⌜ Made c × FieldFilled (c .m) (c .t) (now tables) × Rootless (c .m) (now tables) ⌝ }
+    ensures { λ _. ⌜ RootPart (c .m) (c .t) 0 (now (tables .exit)) ⌝ }
+{
+    let t = c.t;
+    if t == 2 {
+        fill_quadratics(c, tables);
+        return;
+    }
+    if t == 3 {
+        fill_kappas(c, tables);
+        return;
+    }
+}
+
+// The first eight roots again behind the period.
+fn wrap_roots(c: Code, tables: &mut [u32])
+    requires { ⌜ Made c × RootPart (c .m) (c .t) 0 (now tables) ⌝ }
+    ensures { λ _. ⌜ Filled c (now (tables .exit)) ⌝ }
+{
+    let m = c.m;
+    let t = c.t;
+    let period = c.period;
+    let from = c.roots;
+    let mut i = 0;
+    while i < 8 {
+        let x = tables[from + i];
+        tables[from + period + i] = x;
+        i += 1;
+    }
+}
+
+// The tables of the field, where all are zeros before.
+pub fn fill_field(c: Code, tables: &mut [u32])
+    requires { ⌜ Made c × (3 * 2 ^ c .m + 16 ≤ length (now tables)) × Zeros (now tables) ⌝ }
+    ensures { λ _. ⌜ Fielded c (now (tables .exit)) × Rootless (c .m) (now (tables .exit)) ⌝ }
+{
+    fill_logs(c, tables);
+    fill_powers(c, tables);
+    wrap_powers(c, tables);
+}
+
+// The roots, where the field's tables are filled.
+pub fn fill_roots(c: Code, tables: &mut [u32])
+    requires { ⌜ Fielded c (now tables) × Rootless (c .m) (now tables) ⌝ }
+    ensures { λ _. ⌜ Filled c (now (tables .exit)) ⌝ }
+{
+    fill_solutions(c, tables);
+    wrap_roots(c, tables);
+}
