@@ -32,7 +32,7 @@ test-flipped j (w ∷ ws) xs = test-flipped (j / 2) ws (cond (eqb (j % 2) 1) (fl
     go false = refl
 
 -- none is chosen for 0
-chosen-none : (ws : List ℕ) → chosen 0 ws ≡ []
+pub chosen-none : (ws : List ℕ) → chosen 0 ws ≡ []
 unfolding chosen
 chosen-none [] = refl
 chosen-none (w ∷ ws) = chosen-none ws

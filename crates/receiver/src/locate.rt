@@ -72,16 +72,16 @@ fn lost() -> Flips
 }
 
 // One position, where it is below n.
-fn one(c: Code, x: usize) -> Flips
-    ensures { λ r. ⌜ Located r (within (c .n) (x ∷ [])) ⌝ }
+fn one(c: Code, p: usize) -> Flips
+    ensures { λ r. ⌜ Located r (within (c .n) (p ∷ [])) ⌝ }
 {
-    if c.n <= x {
+    if c.n <= p {
         return lost();
     }
     Flips {
         found: true,
         count: 1,
-        at: [x, 0, 0],
+        at: [p, 0, 0],
     }
 }
 

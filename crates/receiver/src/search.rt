@@ -1,7 +1,7 @@
 // The Chase search: the hard stage of one test word after the other, each candidate weighed, until one is sure.
 ghost use mathlib.Core.Path.{_≡_};
 ghost use mathlib.Core.Bool.{false};
-ghost use Prim.Native.Nat.{ℕ, _+_, _-_, _*_, _^_, _≤_};
+ghost use Prim.Native.Nat.{_-_, _^_, _<_, _≤_};
 ghost use lib.ListN.{length, take};
 ghost use Rattle.bch.specs.Code.{designDistance};
 ghost use Rattle.bch.proofs.LogAnswers.{syndromesOf};
@@ -71,17 +71,11 @@ fn nearer(best: Pick, sum: u32) -> bool
 }
 
 // The outcome with the candidate of the last try: it ends the search where its margin is 0 or more, and is kept where it is nearer than the
-// best so far. (No candidate's A is above `most`, so that A is worked out only where it can matter.)
-fn judged(d: usize, keys: Keys, most: u32, o: Outcome, w: Weight, f: Flips) -> Outcome
-    requires { ⌜ (d ≤ 8) × (length (keys .at) ≡ 8) × (most ≡ weighed (take d (keys .at))) × (o .sure ≡ false) × (1 ≤ o .tries) ⌝ }
+// best so far.
+fn judged(d: usize, keys: Keys, o: Outcome, w: Weight, f: Flips) -> Outcome
+    requires { ⌜ (d ≤ 8) × (length (keys .at) ≡ 8) × (1 ≤ o .tries) ⌝ }
     ensures { λ r. ⌜ r ≡ judgedBy (weighed (take (d - w .q) (keys .at))) o w f ⌝ }
 {
-    let near = nearer(o.pick, w.sum);
-    if most < w.sum {
-        if !near {
-            return o;
-        }
-    }
     let a = weighing::allowance(keys, d, w.q);
     let k = Pick {
         q: w.q,
@@ -97,7 +91,7 @@ fn judged(d: usize, keys: Keys, most: u32, o: Outcome, w: Weight, f: Flips) -> O
             pick: k,
         };
     }
-    if near {
+    if nearer(o.pick, w.sum) {
         return Outcome {
             sure: false,
             tries: o.tries,
@@ -123,7 +117,6 @@ fn try_on(
     ensures { λ r. ⌜ Tried (codeOf c) p (now (s .entry)) r × (r .sure ≡ false → r .tries ≡ length (now (sums .entry))) ⌝ }
 {
     let d = c.distance();
-    let most = weighing::allowance(keys, d, 0);
     let mut o = start;
     while o.tries < sums.len() {
         let e = locate::next(c, tables, sums, o.tries);
@@ -134,12 +127,23 @@ fn try_on(
         }
         let j = e.tries - 1;
         let w = weighing::weigh(s, keys, p, j, weights[j], e.flips);
-        o = judged(d, keys, most, o, w, e.flips);
+        o = judged(d, keys, o, w, e.flips);
         if o.sure {
             return o;
         }
     }
     o
+}
+
+// Whether the test words of the first b of p weak positions are tried before there are more: where they are eight, or all.
+fn due(b: usize, p: usize) -> bool
+    requires { ⌜ b ≤ p ⌝ }
+    ensures { λ r. ⌜ (r ≡ false → b < p) ⌝ }
+{
+    if b < 3 {
+        return b == p;
+    }
+    true
 }
 
 // The tries after that of test word 0: each weak position doubles the test words, as far as the search gets.
@@ -166,11 +170,13 @@ fn search_on(
     while b < p {
         test_words::double(c, tables, at[b], to, &mut sums, &mut weights);
         to = 2 * to;
-        o = try_on(c, tables, s, keys, p, &sums[..to], &weights[..to], o);
-        if o.sure {
-            return o;
-        }
         b += 1;
+        if due(b, p) {
+            o = try_on(c, tables, s, keys, p, &sums[..to], &weights[..to], o);
+            if o.sure {
+                return o;
+            }
+        }
     }
     o
 }

@@ -219,12 +219,12 @@ fn fill_solutions(c: Code, tables: &mut [u32])
     requires { ⌜ Made c × FieldFilled (c .m) (c .t) (now tables) × Rootless (c .m) (now tables) ⌝ }
     ensures { λ _. ⌜ RootPart (c .m) (c .t) 0 (now (tables .exit)) ⌝ }
 {
-    let t = c.t;
-    if t == 2 {
+    let errors = c.t;
+    if errors == 2 {
         fill_quadratics(c, tables);
         return;
     }
-    if t == 3 {
+    if errors == 3 {
         fill_kappas(c, tables);
         return;
     }

@@ -58,13 +58,17 @@ fn chosen_at(keys: Keys, p: usize, j: usize, x: usize) -> bool
     false
 }
 
-// Whether test word j flips position x, of reliability z. (A position that is stronger than the last weak one needs no search.)
+// Whether test word j flips position x, of reliability z. (Test word 0 flips none, and a position that is stronger than the last weak one
+// needs no search.)
 fn flipped(s: &[u8], keys: Keys, p: usize, j: usize, x: usize, z: u32) -> bool
     requires { ⌜ Ready (now s) (keys .at) p ⌝ }
     requires { ⌜ z ≡ getD (reliabilities (now s)) x 0 ⌝ }
     ensures { λ r. ⌜ r ≡ isIn x (chosen j (weakest p (now (s .entry)))) ⌝ }
 {
     if p == 0 {
+        return false;
+    }
+    if j == 0 {
         return false;
     }
     let at = keys.at;

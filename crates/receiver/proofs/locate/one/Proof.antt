@@ -11,11 +11,11 @@ lost-requires : tie.Need-lost-requires
 lost-requires c κs = search needs
 
 returns : tie.Need-returns
-returns c = let a = c .before .before .before .args in (c .lost .ensures .0 ∙ one-lost (a .c .n) (a .x) (c .before .if1 .taken), c .lost .ensures .1, c .lost .ensures .2)
+returns c = let a = c .before .before .before .args in (c .lost .ensures .0 ∙ one-lost (a .c .n) (a .p) (c .before .if1 .taken), c .lost .ensures .1, c .lost .ensures .2)
 
 returns-2 : tie.Need-returns-2
 unfolding positions
-returns-2 c = let a = c .before .before .args in (one-found (a .c .n) (a .x) (omega arith), refl, omega arith)
+returns-2 c = let a = c .before .before .args in (one-found (a .c .n) (a .p) (omega arith), refl, omega arith)
 
 pub one-spec : {M : Type 1} → statement M
 one-spec = tie.close (tie.spec lost-requires returns returns-2)

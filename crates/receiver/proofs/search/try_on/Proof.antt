@@ -17,27 +17,27 @@ use Rattle.receiver.proofs.search.try_on.Statement.{statement}
 use Rattle.receiver.proofs.search.try_on.Tie as tie
 
 abbrev Inv-loop : tie.InvT-loop
-Inv-loop c tables s keys p sums weights d most o₀ o = Tried (codeOf c) p s o × (o .sure ≡ false) × (o .tries ≤ length sums)
+Inv-loop c tables s keys p sums weights d o₀ o = Tried (codeOf c) p s o × (o .sure ≡ false) × (o .tries ≤ length sums)
 
 abbrev μ-loop : tie.MeasureT-loop
-μ-loop c tables s keys p sums weights d most o₀ o = length sums - o .tries
+μ-loop c tables s keys p sums weights d o₀ o = length sums - o .tries
 
 no-bool : {A : Type 0} → true ≡ false → A
 no-bool e = absurd (let z : _≡_ {A = ℕ} 0 1 = cc in omega arith)
 
 -- the outcome with one candidate more
 after : (c : tie.After-judged Inv-loop μ-loop)
-    → Tried (codeOf (c .before .before .before .before .before .before .before .before .before .before .before .before .before .before .before .args .c)) (c .before .before .before .before .before .before .before .before .before .before .before .before .before .before .before .args .p) (c .before .before .before .before .before .before .before .before .before .before .before .before .before .before .before .args .s .now) (c .judged .result)
-    × (c .judged .result .tries ≡ c .before .before .before .before .before .next .result .tries) × (c .before .before .before .before .before .before .before .before .loop .o .tries < c .before .before .before .before .before .next .result .tries) × (c .before .before .before .before .before .next .result .tries ≤ length (c .before .before .before .before .before .before .before .before .before .before .before .before .before .before .before .args .sums .now))
+    → Tried (codeOf (c .before .before .before .before .before .before .before .before .before .before .before .before .before .before .args .c)) (c .before .before .before .before .before .before .before .before .before .before .before .before .before .before .args .p) (c .before .before .before .before .before .before .before .before .before .before .before .before .before .before .args .s .now) (c .judged .result)
+    × (c .judged .result .tries ≡ c .before .before .before .before .before .next .result .tries) × (c .before .before .before .before .before .before .before .before .loop .o .tries < c .before .before .before .before .before .next .result .tries) × (c .before .before .before .before .before .next .result .tries ≤ length (c .before .before .before .before .before .before .before .before .before .before .before .before .before .before .args .sums .now))
 after c =
-    let s = c .before .before .before .before .before .before .before .before .before .before .before .before .before .before .before in
+    let s = c .before .before .before .before .before .before .before .before .before .before .before .before .before .before in
     let a = s .args in
     let l = c .before .before .before .before .before .before .before .before .loop in
     let n = c .before .before .before .before .before .next in
     let f = n .result .flips in
     let z = not-false _ (c .before .before .before .before .if2 .left) in
     let e : c .judged .result ≡ _ = c .judged .ensures in
-    let d = c .before .before .before .before .before .before .before .before .before .before .distance .ensures ∙ s .pre .0 .0 .filled .fielded .made .is-d in
+    let d = c .before .before .before .before .before .before .before .before .before .distance .ensures ∙ s .pre .0 .0 .filled .fielded .made .is-d in
     let w = c .before .weigh in
     let t =
     turn-judged (a .c) (a .tables .now) (a .s .now) (a .keys .at) (a .p) (a .sums .now) (a .weights .now) (s .pre .0 .0) (s .pre .0 .1) (l .o) (l .inv .1)
@@ -48,18 +48,12 @@ after c =
 distance-requires : tie.Need-distance-requires Inv-loop μ-loop
 distance-requires c κs = search needs
 
-allowance-requires : tie.Need-allowance-requires Inv-loop μ-loop
-allowance-requires c κs =
-    let s = c .before .before .before .before .before in
-    let k = s .pre .0 .0 in
-    (omega (arith, c .distance .ensures, k .filled .fielded .made .is-d, k .filled .fielded .made .lawful .t-most), k .deep .ready .eight)
-
 loop-holds : tie.Need-loop-holds Inv-loop μ-loop
-loop-holds c = let s = c .before .before .before .before .before .before in (s .pre .1 .0, s .pre .1 .1, s .pre .1 .2)
+loop-holds c = let s = c .before .before .before .before .before in (s .pre .1 .0, s .pre .1 .1, s .pre .1 .2)
 
 next-requires : tie.Need-next-requires Inv-loop μ-loop
 next-requires c κs =
-    let s = c .before .before .before .before .before .before .before .before .before in
+    let s = c .before .before .before .before .before .before .before .before in
     let a = s .args in
     let syndromes =
     are-syndromes (a .c) (a .tables .now) (a .s .now) (a .keys .at) (a .p) (a .sums .now) (a .weights .now) (s .pre .0 .0) (s .pre .0 .1) in
@@ -67,7 +61,7 @@ next-requires c κs =
 
 returns : tie.Need-returns Inv-loop μ-loop
 returns c =
-    let s = c .before .before .before .before .before .before .before .before .before .before .before in
+    let s = c .before .before .before .before .before .before .before .before .before .before in
     let a = s .args in
     let l = c .before .before .before .before .loop in
     let n = c .before .next in
@@ -81,18 +75,18 @@ sub-j c = omega (arith, c .before .before .next .ensures .0 .there (not-false _ 
 
 mul-weigh : tie.Need-mul-weigh Inv-loop μ-loop
 mul-weigh c =
-    let s = c .before .before .before .before .before .before .before .before .before .before .before .before in
+    let s = c .before .before .before .before .before .before .before .before .before .before .before in
     let h : 2 ^ s .args .p ≤ 2 ^ 6 = pow-mono {j = 6} (s .pre .0 .0 .deep .ready .depth) in
     omega (arith, c .before .before .next .ensures .0 .most, s .pre .0 .1 .most)
 
 shared-slice-read-weigh : tie.Need-shared-slice-read-weigh Inv-loop μ-loop
 shared-slice-read-weigh c =
     let n = c .before .before .before .next .ensures .0 in
-    omega (arith, n .there (not-false _ (c .before .before .if2 .left)) .0, n .most, c .before .before .before .before .before .before .before .before .before .before .before .before .before .pre .0 .1 .as-many)
+    omega (arith, n .there (not-false _ (c .before .before .if2 .left)) .0, n .most, c .before .before .before .before .before .before .before .before .before .before .before .before .pre .0 .1 .as-many)
 
 weigh-requires : tie.Need-weigh-requires Inv-loop μ-loop
 weigh-requires c κs =
-    let s = c .before .before .before .before .before .before .before .before .before .before .before .before .before in
+    let s = c .before .before .before .before .before .before .before .before .before .before .before .before in
     let a = s .args in
     let l = c .before .before .before .before .before .before .loop in
     let n = c .before .before .before .next in
@@ -108,12 +102,11 @@ weigh-requires c κs =
 
 judged-requires : tie.Need-judged-requires Inv-loop μ-loop
 judged-requires c κs =
-    let s = c .before .before .before .before .before .before .before .before .before .before .before .before .before .before in
+    let s = c .before .before .before .before .before .before .before .before .before .before .before .before .before in
     let k = s .pre .0 .0 in
     let n = c .before .before .before .before .next .ensures .0 .there (not-false _ (c .before .before .before .if2 .left)) .0 in
-    let d : c .before .before .before .before .before .before .before .before .before .distance .result ≤ 8 = omega (arith, c .before .before .before .before .before .before .before .before .before .distance .ensures, k .filled .fielded .made .is-d, k .filled .fielded .made .lawful .t-most) in
-    let z : c .before .before .before .before .before .before .before .before .before .distance .result - 0 ≡ c .before .before .before .before .before .before .before .before .before .distance .result = omega arith in
-    (d, k .deep .ready .eight, c .before .before .before .before .before .before .before .before .allowance .ensures ∙ ap (λ (n : ℕ). weighed (take n (s .args .keys .at))) z, c .before .before .before .before .before .before .before .loop .inv .1, omega arith)
+    let d : c .before .before .before .before .before .before .before .before .distance .result ≤ 8 = omega (arith, c .before .before .before .before .before .before .before .before .distance .ensures, k .filled .fielded .made .is-d, k .filled .fielded .made .lawful .t-most) in
+    (d, k .deep .ready .eight, omega arith)
 
 returns-2 : tie.Need-returns-2 Inv-loop μ-loop
 returns-2 c = (after (c .before) .0, λ z. no-bool (sym (c .if3 .taken) ∙ z))
@@ -138,7 +131,6 @@ try-on-spec =
     Inv-loop
     μ-loop
     distance-requires
-    allowance-requires
     loop-holds
     next-requires
     returns
