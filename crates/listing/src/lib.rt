@@ -39,17 +39,17 @@ pub fn word_line(index: usize, answer: Soft, message: &[u8], text: &mut [u8]) ->
 {
     if text.len() < 81 {
         return Line::Refused(Refusal {
-            number: 7,
+            number: refusal::REFUSED_OUTPUT_LENGTH,
             place: 0,
         });
     }
     if text.len() - 81 < message.len() {
         return Line::Refused(Refusal {
-            number: 7,
+            number: refusal::REFUSED_OUTPUT_LENGTH,
             place: 0,
         });
     }
-    match refusal::at_most(8, 1, message) {
+    match refusal::at_most(refusal::REFUSED_BIT, 1, message) {
         Check::Refused(r) => {
             return Line::Refused(r);
         }
@@ -65,7 +65,7 @@ pub fn totals_line(totals: Totals, text: &mut [u8]) -> Line
 {
     if text.len() < 105 {
         return Line::Refused(Refusal {
-            number: 7,
+            number: refusal::REFUSED_OUTPUT_LENGTH,
             place: 0,
         });
     }
