@@ -14,8 +14,8 @@ use mir.Val.{SFits, toZ, ofZ}
 use Rattle.chase.specs.Soft.{Answer, lostAnswer}
 use Rattle.take_format.specs.Refusal.{Refusal, refused, unless, firstOf, bitBytes}
 use Rattle.take_format.specs.Calls.{answered, unlessRefused}
-use Rattle.take_format.proofs.CallLaws.{answered-some, answered-none, buffer-some, buffer-none}
-use Rattle.take_format.proofs.RefusalLaws.{first-last}
+use Rattle.take_format.proofs.checks.CallLaws.{answered-some, answered-none, buffer-some, buffer-none}
+use Rattle.take_format.proofs.checks.RefusalLaws.{first-last}
 use Rattle.receiver.specs.Answer.{softOf}
 use Rattle.receiver.specs.declared.Soft.{Soft}
 use Rattle.listing.specs.Text.{decimal, signed, markName, messageText, line, wordLine}

@@ -8,8 +8,8 @@ use Rattle.bch.specs.Code.{wordLength, messageLength}
 use Rattle.chase.specs.Soft.{Answer, softStage}
 use Rattle.take_format.specs.Batch.{part, markByte, answersTo, totalsOf, countedOf}
 use Rattle.take_format.specs.Take.{Header, header}
-use Rattle.take_format.proofs.Accepted.{Opened}
-use Rattle.take_format.proofs.Batches.{Few}
+use Rattle.take_format.proofs.checks.Accepted.{Opened}
+use Rattle.take_format.proofs.takes.Batches.{Few}
 use Rattle.receiver.specs.Answer.{totalsTold}
 use Rattle.listing.specs.Buffer.{Put}
 use Rattle.listing.specs.Takelist.{lineAt, linesOf}

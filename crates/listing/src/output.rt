@@ -3,7 +3,7 @@ ghost use Prim.Native.Nat.{_+_, _*_, _<_, _≤_};
 ghost use mathlib.Core.Path.{_≡_};
 ghost use lib.ListN.{length};
 ghost use Rattle.bch.specs.Code.{messageLength};
-ghost use Rattle.take_format.proofs.Batches.{Few};
+ghost use Rattle.take_format.proofs.takes.Batches.{Few};
 ghost use Rattle.receiver.specs.Answer.{totalsTold};
 ghost use Rattle.takes.specs.Answer.{headerOf};
 ghost use Rattle.listing.specs.Buffer.{Put};

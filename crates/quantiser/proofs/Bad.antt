@@ -7,7 +7,7 @@ use mathlib.Core.Bool.{true, false, _&&_, _||_}
 use borrow.Author.Tests.{lt-ltb}
 use lib.Dec.{ltb, eqb}
 use lib.Ieee.{Float, isNan, ne}
-use Rattle.take_format.proofs.SampleSteps.{differs-nan}
+use Rattle.take_format.proofs.quantisation.SampleSteps.{differs-nan}
 use Rattle.quantiser.specs.Told.{isBad}
 
 -- it is asked without a branch

@@ -9,7 +9,7 @@ use lib.IntN.{pos, subℕ, _-ℤ_}
 use mir.Syntax.{w32}
 use mir.Val.{SFits, toZ}
 use mir.Facts.{toZ-pos}
-use Rattle.chase.proofs.Sizes.{mag-sub}
+use Rattle.chase.proofs.weighing.Sizes.{mag-sub}
 
 -- the difference fits
 pub sub-sfits : (a b : ℕ) → a < 65536 → b < 65536 → SFits w32 (subℕ a b)

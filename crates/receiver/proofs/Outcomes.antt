@@ -9,7 +9,7 @@ use borrow.Author.Tests.{ltb-true, ltb-false, leb-true, leb-false}
 use lib.Dec.{ltb, leb}
 use Rattle.bch.specs.Code.{Code}
 use Rattle.chase.specs.Soft.{Answer, Candidate, sure, answer, settled, better, candidate, tried, searchFrom, softStage}
-use Rattle.chase.proofs.Steps.{search-start, skip, step-sure, step-on, step-end, better-first, better-nearer, better-kept}
+use Rattle.chase.proofs.search.Steps.{search-start, skip, step-sure, step-on, step-end, better-first, better-nearer, better-kept}
 use Rattle.receiver.specs.Search.{candidateOf, pickOf, outcomeOf, nearerPick, pickBy, judgedBy, Sound, Tried, Untried}
 use Rattle.receiver.specs.declared.locate.Flips.{Flips}
 use Rattle.receiver.specs.declared.weighing.Weight.{Weight}

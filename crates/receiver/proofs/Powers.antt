@@ -5,7 +5,7 @@ use mathlib.Core.Path.{_≡_, ap, sym, _∙_, subst}
 use mathlib.Core.List.{List}
 use lib.ListN.{length, take, drop, length-drop}
 use lib.Seq.{take-all}
-use Rattle.bch.proofs.SyndromeSums.{PowersAt, powers-after, powers-long}
+use Rattle.bch.proofs.tables.SyndromeSums.{PowersAt, powers-after, powers-long}
 use Rattle.refusal.specs.declared.Code.{Code}
 use Rattle.receiver.specs.Tables.{Fielded}
 

@@ -10,19 +10,19 @@ use lib.Pow.{pow-mono}
 use lib.Seq.{length-take-le, getD-take}
 use Rattle.bch.specs.Words.{Distinct, flippedAt}
 use Rattle.bch.specs.Code.{Code, designDistance}
-use Rattle.bch.proofs.LogAnswers.{syndromesOf}
-use Rattle.bch.proofs.LogLocator.{locateIn}
-use Rattle.bch.proofs.Placing.{positions, Placed}
-use Rattle.bch.proofs.Seeking.{Next}
-use Rattle.bch.proofs.Settings.{Lawful}
+use Rattle.bch.proofs.logarithms.LogAnswers.{syndromesOf}
+use Rattle.bch.proofs.logarithms.LogLocator.{locateIn}
+use Rattle.bch.proofs.tables.Placing.{positions, Placed}
+use Rattle.bch.proofs.logarithms.Seeking.{Next}
+use Rattle.bch.proofs.codes.Settings.{Lawful}
 use Rattle.chase.specs.Soft.{hardBits, reliabilities, candidate, tried, searchFrom, softStage}
 use Rattle.chase.specs.Word.{test}
-use Rattle.chase.proofs.Allowances.{weighed}
-use Rattle.chase.proofs.Doublings.{Holds}
-use Rattle.chase.proofs.Ready.{length-candidate, weighed-most}
-use Rattle.chase.proofs.Steps.{skip}
-use Rattle.chase.proofs.Tries.{try-parts, try-missed, try-placed, try-distinct, try-some}
-use Rattle.chase.proofs.Weights.{Weighs, packedWeight, weighs-small}
+use Rattle.chase.proofs.ranking.Allowances.{weighed}
+use Rattle.chase.proofs.test_words.Doublings.{Holds}
+use Rattle.chase.proofs.search.Ready.{length-candidate, weighed-most}
+use Rattle.chase.proofs.search.Steps.{skip}
+use Rattle.chase.proofs.search.Tries.{try-parts, try-missed, try-placed, try-distinct, try-some}
+use Rattle.chase.proofs.weighing.Weights.{Weighs, packedWeight, weighs-small}
 use Rattle.refusal.specs.Named.{codeOf}
 use Rattle.refusal.specs.declared.Code as refusal
 use Rattle.receiver.specs.Located.{flipsOf, AreSyndromes}

@@ -4,8 +4,8 @@ use mathlib.Core.Path.{_≡_}
 use mathlib.Core.List.{List}
 use mathlib.Core.Option.{Option}
 use lib.ListN.{length, getD, take}
-use Rattle.bch.proofs.LogBounds.{Syndromes}
-use Rattle.bch.proofs.Placing.{positions}
+use Rattle.bch.proofs.logarithms.LogBounds.{Syndromes}
+use Rattle.bch.proofs.tables.Placing.{positions}
 use Rattle.refusal.specs.declared.Code as refusal
 use Rattle.receiver.specs.declared.locate.Flips.{Flips}
 

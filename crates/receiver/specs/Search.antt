@@ -10,13 +10,13 @@ use lib.IntN.{subℕ}
 use lib.ListN.{length}
 use Rattle.bch.specs.Words.{flippedAt}
 use Rattle.bch.specs.Code.{Code, designDistance}
-use Rattle.bch.proofs.LogAnswers.{syndromesOf}
-use Rattle.bch.proofs.Placing.{Placed}
+use Rattle.bch.proofs.logarithms.LogAnswers.{syndromesOf}
+use Rattle.bch.proofs.tables.Placing.{Placed}
 use Rattle.chase.specs.Soft.{Answer, Candidate, answer, lostAnswer, lost, fair, sure, hardBits, reliabilities, searchFrom, softStage}
 use Rattle.chase.specs.Word.{test}
-use Rattle.chase.proofs.Doublings.{Holds}
-use Rattle.chase.proofs.Weights.{packedWeight}
-use Rattle.chase.proofs.Ready.{Deep}
+use Rattle.chase.proofs.test_words.Doublings.{Holds}
+use Rattle.chase.proofs.weighing.Weights.{packedWeight}
+use Rattle.chase.proofs.search.Ready.{Deep}
 use Rattle.take_format.specs.Batch.{markByte}
 use Rattle.refusal.specs.Named.{codeOf}
 use Rattle.refusal.specs.declared.Code as refusal

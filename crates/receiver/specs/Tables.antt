@@ -1,8 +1,8 @@
 -- The tables of a code, as far as they are filled. Cited by the contracts of private functions alone. Assumes nothing.
 use mathlib.Core.List.{List}
 use Prim.Native.Nat.{ℕ}
-use Rattle.bch.proofs.CodeTables.{CodeTables}
-use Rattle.bch.proofs.TableLoops.{FieldFilled}
+use Rattle.bch.proofs.tables.CodeTables.{CodeTables}
+use Rattle.bch.proofs.tables.TableLoops.{FieldFilled}
 use Rattle.refusal.specs.Named.{Made}
 use Rattle.refusal.specs.declared.Code as refusal
 

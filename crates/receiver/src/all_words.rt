@@ -8,7 +8,7 @@ ghost use Rattle.chase.specs.Word.{Symbols};
 ghost use Rattle.take_format.specs.Batch.{message as Batch·message, markByte, answersTo, messagesOf, marksOf, totalsOf};
 ghost use Rattle.take_format.specs.Calls.{answered, unlessRefused};
 ghost use Rattle.take_format.specs.Refusal.{wordsCheck};
-ghost use Rattle.take_format.proofs.RefusalLaws.{WordsChecked};
+ghost use Rattle.take_format.proofs.checks.RefusalLaws.{WordsChecked};
 ghost use Rattle.refusal.specs.Checked.{checked};
 ghost use Rattle.refusal.specs.Named.{codeOf, Made};
 ghost use Rattle.receiver.specs.Answer.{totalsTold, wordsOf};

@@ -3,8 +3,8 @@
 ghost use mathlib.Core.Path.{_≡_};
 ghost use Prim.Native.Nat.{_/_, _%_, _<_, _≤_};
 ghost use lib.ListN.{length};
-ghost use Rattle.chase.proofs.Keys.{Weakest};
-ghost use Rattle.chase.proofs.Keys.{put as Keys·put};
+ghost use Rattle.chase.proofs.ranking.Keys.{Weakest};
+ghost use Rattle.chase.proofs.ranking.Keys.{put as Keys·put};
 
 // The least keys of a word, rising.
 pub struct Keys {

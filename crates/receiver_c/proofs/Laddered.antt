@@ -7,8 +7,8 @@ use lib.Ieee.{Float}
 use Rattle.take_format.specs.Refusal.{Refusal}
 use Rattle.take_format.specs.Calls.{unlessRefused, quantisedBuffer}
 use Rattle.take_format.specs.Samples.{ladderCheck, samplesRefusal, quantised}
-use Rattle.take_format.proofs.RefusalLaws.{first-some, first-none, first-last}
-use Rattle.take_format.proofs.CallLaws.{buffer-some}
+use Rattle.take_format.proofs.checks.RefusalLaws.{first-some, first-none, first-last}
+use Rattle.take_format.proofs.checks.CallLaws.{buffer-some}
 use Rattle.receiver_c.specs.Packed.{quantiseRefusal, quantiseBuffer}
 
 module _ (es : List Float) (kinds : List ℕ) (levels : List Float) (symbols : List ℕ) where

@@ -12,10 +12,10 @@ use mathlib.Core.List.{List}
 use mathlib.Core.Option.{Option, none, some, Option·map}
 use Rattle.bch.specs.Code.{Code, wordLength}
 use Rattle.bch.specs.Hard.{Repair, hardStage, hardFlips}
-use Rattle.bch.proofs.Settings.{lawful}
-use Rattle.bch.proofs.HardLaws.{hard-found}
+use Rattle.bch.proofs.codes.Settings.{lawful}
+use Rattle.bch.proofs.codes.HardLaws.{hard-found}
 use Rattle.chase.specs.Soft.{Answer, softStage}
-use Rattle.chase.proofs.Sizes.{soft-small}
+use Rattle.chase.proofs.weighing.Sizes.{soft-small}
 use Rattle.take_format.specs.Refusal.{Refusal, hardRefusal, softRefusal}
 use Rattle.take_format.specs.Calls.{hardAnswer, softAnswer, ladderAnswer}
 use Rattle.take_format.specs.Batch.{Totals}
@@ -28,9 +28,9 @@ use Rattle.receiver.specs.Answer.{softOf}
 use Rattle.receiver.specs.declared.Soft.{Soft}
 use Rattle.receiver.specs.declared.Soft.the-variants.{Refused}
 use Rattle.receiver_c.specs.Packed.{softPacked}
-use Rattle.take_format.proofs.RefusalLaws.{IfRefused, BitsAccepted, bits-accepted, soft-accepted}
-use Rattle.take_format.proofs.CallLaws.{answered-inl, answered-inr}
-use Rattle.take_format.proofs.Numbers.{Numbered, numbered-bits, numbered-soft, numbered-open, numbered-take}
+use Rattle.take_format.proofs.checks.RefusalLaws.{IfRefused, BitsAccepted, bits-accepted, soft-accepted}
+use Rattle.take_format.proofs.checks.CallLaws.{answered-inl, answered-inr}
+use Rattle.take_format.proofs.checks.Numbers.{Numbered, numbered-bits, numbered-soft, numbered-open, numbered-take}
 
 -- a refusal's number is small
 pub number-small : (o : Option Refusal) → IfRefused Numbered o → (r : Refusal) → some r ≡ o → r .number < 128

@@ -5,11 +5,11 @@ use mathlib.Core.Path.{_≡_, refl, sym}
 use mathlib.Core.Option.{Option, none, some}
 use Rattle.galois.proofs.FieldTables.{size-least, size-most}
 use Rattle.bch.specs.Code.{Code, code}
-use Rattle.bch.proofs.Settings.{lawful, word-long}
+use Rattle.bch.proofs.codes.Settings.{lawful, word-long}
 use Rattle.take_format.specs.Refusal.{Refusal, firstOf, settings}
 use Rattle.take_format.specs.Calls.{answered}
-use Rattle.take_format.proofs.RefusalLaws.{settings-code}
-use Rattle.take_format.proofs.CallLaws.{answered-inl, answered-inr}
+use Rattle.take_format.proofs.checks.RefusalLaws.{settings-code}
+use Rattle.take_format.proofs.checks.CallLaws.{answered-inl, answered-inr}
 use Rattle.refusal.specs.Checked.{refusalOf}
 use Rattle.refusal.specs.Named.{recordOf, namedOf, Made}
 use Rattle.refusal.specs.declared.Refusal as struct

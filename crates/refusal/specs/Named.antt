@@ -4,7 +4,7 @@ use mathlib.Core.Path.{_≡_}
 use mathlib.Core.Logic.{_⊎_, inl, inr}
 use Rattle.galois.specs.Field.{poly}
 use Rattle.bch.specs.Code.{Code, code, messageLength, designDistance}
-use Rattle.bch.proofs.Settings.{Lawful}
+use Rattle.bch.proofs.codes.Settings.{Lawful}
 use Rattle.take_format.specs.Refusal.{Refusal}
 use Rattle.refusal.specs.Checked.{refusalOf}
 use Rattle.refusal.specs.declared.Code as struct

@@ -6,7 +6,7 @@ use Rattle.bch.specs.Code.{Code, code, wordLength, messageLength}
 use Rattle.bch.specs.Encode.{encoded}
 use Rattle.take_format.specs.Refusal.{firstOf, settings, bitsCheck, bitsRefusal, encodeRefusal}
 use Rattle.take_format.specs.Calls.{encodeBuffer}
-use Rattle.take_format.proofs.CallLaws.{settings-refused, buffer-some}
+use Rattle.take_format.proofs.checks.CallLaws.{settings-refused, buffer-some}
 use Rattle.refusal.specs.Named.{namedOf, codeOf}
 use Rattle.refusal.specs.declared.Code as struct
 use Rattle.refusal.proofs.Laws.{named-code, named-refused}

@@ -2,9 +2,9 @@
 use mathlib.Core.Path.{ap, sym, _∙_}
 use borrow.Author.Needs.{needs}
 use Rattle.take_format.specs.Take.{header, openRefusal, openAnswer}
-use Rattle.take_format.proofs.Accepted.{opened-take}
+use Rattle.take_format.proofs.checks.Accepted.{opened-take}
 use Rattle.takes.specs.Answer.{openingOf}
-use Rattle.take_format.proofs.CallLaws.{answered-inr}
+use Rattle.take_format.proofs.checks.CallLaws.{answered-inr}
 use Rattle.listing.specs.Takelist.{openText}
 use Rattle.listing.proofs.Listings.{long-input, opened-input, front}
 use Rattle.listing.proofs.list.Statement.{statement}

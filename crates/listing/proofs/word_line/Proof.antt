@@ -3,7 +3,7 @@ use native.Mathlib.Omega.{arith}
 use mathlib.Core.Path.{ap, sym, _∙_}
 use borrow.Author.Needs.{needs}
 use Rattle.take_format.specs.Refusal.{bitBytes}
-use Rattle.take_format.proofs.RefusalLaws.{bits-none}
+use Rattle.take_format.proofs.checks.RefusalLaws.{bits-none}
 use Rattle.refusal.specs.Checked.{checked}
 use Rattle.listing.specs.Calls.{softLine, lineOf, wordLineAnswer, wordLineBuffer}
 use Rattle.listing.proofs.Answers.{word-short, word-room, call-refused, call-written}

@@ -3,8 +3,8 @@ use mathlib.Core.Path.{ap, sym, _∙_}
 use mathlib.Core.Logic.{inr}
 use borrow.Author.Needs.{needs}
 use Rattle.take_format.specs.Calls.{ladderAnswer}
-use Rattle.take_format.proofs.CallLaws.{answered-some, answered-none}
-use Rattle.take_format.proofs.SampleSteps.{ladder-length, ladder-falls, ladder-rises, entries, entries-all}
+use Rattle.take_format.proofs.checks.CallLaws.{answered-some, answered-none}
+use Rattle.take_format.proofs.quantisation.SampleSteps.{ladder-length, ladder-falls, ladder-rises, entries, entries-all}
 use Rattle.quantiser.specs.Told.{madeOf}
 use Rattle.quantiser.proofs.make_ladder.Statement.{statement}
 use Rattle.quantiser.proofs.make_ladder.Tie as tie

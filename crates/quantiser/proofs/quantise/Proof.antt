@@ -3,8 +3,8 @@ use mathlib.Core.Path.{ap, sym, _∙_}
 use borrow.Author.Needs.{needs}
 use Rattle.take_format.specs.Samples.{quantised}
 use Rattle.take_format.specs.Calls.{quantisedBuffer}
-use Rattle.take_format.proofs.CallLaws.{buffer-some, buffer-none}
-use Rattle.take_format.proofs.SampleSteps.{samples-levels, samples-room, samples-each}
+use Rattle.take_format.proofs.checks.CallLaws.{buffer-some, buffer-none}
+use Rattle.take_format.proofs.quantisation.SampleSteps.{samples-levels, samples-room, samples-each}
 use Rattle.quantiser.specs.Told.{edgesOf, isRefusal}
 use Rattle.quantiser.proofs.Answers.{refusal-keeps, refusal-none}
 use Rattle.quantiser.proofs.quantise.Statement.{statement}

@@ -6,7 +6,7 @@ use Rattle.bch.specs.Code.{code}
 use Rattle.bch.specs.Hard.{hardFlips, hardWritten}
 use Rattle.take_format.specs.Refusal.{Refusal, firstOf, settings, bitsCheck, bitsRefusal}
 use Rattle.take_format.specs.Calls.{answered, unlessRefused, hardAnswer, hardBuffer}
-use Rattle.take_format.proofs.CallLaws.{settings-refused, later-refused, answered-some, buffer-some}
+use Rattle.take_format.proofs.checks.CallLaws.{settings-refused, later-refused, answered-some, buffer-some}
 use Rattle.refusal.specs.Named.{namedOf, codeOf, Made}
 use Rattle.refusal.specs.declared.Code as struct
 use Rattle.refusal.proofs.Laws.{named-code, named-refused, made}

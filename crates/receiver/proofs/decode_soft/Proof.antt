@@ -6,7 +6,7 @@ use Rattle.bch.specs.Code.{code}
 use Rattle.chase.specs.Soft.{softStage, softWritten}
 use Rattle.take_format.specs.Refusal.{Refusal, firstOf, settings, symbolsCheck, softRefusal}
 use Rattle.take_format.specs.Calls.{answered, unlessRefused, softAnswer, softBuffer}
-use Rattle.take_format.proofs.CallLaws.{settings-refused, later-refused, answered-some, buffer-some}
+use Rattle.take_format.proofs.checks.CallLaws.{settings-refused, later-refused, answered-some, buffer-some}
 use Rattle.refusal.specs.Named.{namedOf, codeOf, Made}
 use Rattle.refusal.specs.declared.Code as struct
 use Rattle.refusal.proofs.Laws.{named-code, named-refused, made}

@@ -7,7 +7,7 @@ use native.Mathlib.Omega.{arith}
 use Rattle.take_format.specs.Refusal.{Refusal, firstOf, settings, wordsCheck, wordsRefusal}
 use Rattle.take_format.specs.Batch.{answersTo, messagesOf, marksOf, totalsOf}
 use Rattle.take_format.specs.Calls.{answered, unlessRefused, wordsAnswer, messagesBuffer, marksBuffer}
-use Rattle.take_format.proofs.CallLaws.{settings-refused, later-refused, answered-some, buffer-some}
+use Rattle.take_format.proofs.checks.CallLaws.{settings-refused, later-refused, answered-some, buffer-some}
 use Rattle.refusal.specs.Named.{namedOf, codeOf, Made}
 use Rattle.refusal.proofs.Laws.{named-code, named-refused, made}
 use Rattle.receiver.specs.Answer.{wordsOf}

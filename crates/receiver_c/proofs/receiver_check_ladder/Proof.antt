@@ -1,7 +1,7 @@
 -- What the ladder's check answers, packed. Assumes nothing.
 use mathlib.Core.Path.{ap, sym, _∙_}
 use borrow.Author.Needs.{needs}
-use Rattle.take_format.proofs.Numbers.{numbered-ladder}
+use Rattle.take_format.proofs.checks.Numbers.{numbered-ladder}
 use Rattle.quantiser.specs.Told.{madeOf}
 use Rattle.receiver_c.specs.Packed.{checkPacked}
 use Rattle.receiver_c.proofs.Sizes.{number-small, ladder-refused, ladder-passed}

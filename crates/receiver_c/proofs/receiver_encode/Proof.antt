@@ -1,7 +1,7 @@
 -- What the encoder answers, packed. Assumes nothing.
 use mathlib.Core.Path.{ap, sym, _∙_}
 use borrow.Author.Needs.{needs}
-use Rattle.take_format.proofs.Numbers.{numbered-bits}
+use Rattle.take_format.proofs.checks.Numbers.{numbered-bits}
 use Rattle.encoder.specs.Outcome.{encodedOf}
 use Rattle.receiver_c.specs.Packed.{checkPacked}
 use Rattle.receiver_c.proofs.Sizes.{number-small}

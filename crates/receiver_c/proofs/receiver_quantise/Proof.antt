@@ -1,7 +1,7 @@
 -- The ladder's check, and then what the quantiser answers, packed. Assumes nothing.
 use mathlib.Core.Path.{ap, sym, _∙_}
 use borrow.Author.Needs.{needs}
-use Rattle.take_format.proofs.Numbers.{numbered-ladder, numbered-samples}
+use Rattle.take_format.proofs.checks.Numbers.{numbered-ladder, numbered-samples}
 use Rattle.refusal.specs.Checked.{checked}
 use Rattle.quantiser.specs.Told.{madeOf}
 use Rattle.receiver_c.specs.Packed.{checkPacked}

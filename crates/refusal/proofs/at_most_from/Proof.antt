@@ -6,7 +6,7 @@ use mathlib.Core.List.{List}
 use borrow.Author.Needs.{needs}
 use lib.ListN.{length, drop, length-drop}
 use lib.Seq.{take-all}
-use Rattle.take_format.proofs.RefusalLaws.{all-most, above-none}
+use Rattle.take_format.proofs.checks.RefusalLaws.{all-most, above-none}
 use Rattle.refusal.specs.Checked.{checked, AtMost}
 use Rattle.refusal.proofs.at_most_from.Statement.{statement}
 use Rattle.refusal.proofs.at_most_from.Tie as tie

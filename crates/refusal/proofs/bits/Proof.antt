@@ -4,7 +4,7 @@ use borrow.Author.Needs.{needs}
 use borrow.Author.Tests.{eq-eqb, ne-eqb}
 use lib.ListN.{length}
 use Rattle.take_format.specs.Refusal.{bitBytes, bitsCheck}
-use Rattle.take_format.proofs.RefusalLaws.{first-last}
+use Rattle.take_format.proofs.checks.RefusalLaws.{first-last}
 use Rattle.refusal.proofs.bits.Statement.{statement}
 use Rattle.refusal.proofs.bits.Tie as tie
 

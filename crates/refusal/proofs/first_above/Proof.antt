@@ -5,7 +5,7 @@ use mathlib.Core.Path.{_≡_, refl, sym, _∙_}
 use borrow.Author.Needs.{needs}
 use lib.ListN.{length, drop}
 use Rattle.take_format.specs.Refusal.{unlessAtMost}
-use Rattle.take_format.proofs.RefusalLaws.{above-here, above-later, above-none}
+use Rattle.take_format.proofs.checks.RefusalLaws.{above-here, above-later, above-none}
 use Rattle.refusal.specs.Checked.{checked}
 use Rattle.refusal.proofs.first_above.Statement.{statement}
 use Rattle.refusal.proofs.first_above.Tie as tie

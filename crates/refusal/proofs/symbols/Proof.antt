@@ -4,7 +4,7 @@ use borrow.Author.Needs.{needs}
 use borrow.Author.Tests.{le-leb, lt-leb, eq-eqb, ne-eqb}
 use lib.ListN.{length}
 use Rattle.take_format.specs.Refusal.{symbolBytes, symbolsCheck}
-use Rattle.take_format.proofs.RefusalLaws.{first-last}
+use Rattle.take_format.proofs.checks.RefusalLaws.{first-last}
 use Rattle.refusal.proofs.symbols.Statement.{statement}
 use Rattle.refusal.proofs.symbols.Tie as tie
 

@@ -8,8 +8,8 @@ use Rattle.bch.specs.Code.{messageLength}
 use Rattle.bch.specs.Encode.{encoded}
 use Rattle.take_format.specs.Refusal.{bitsCheck, bitsRefusal}
 use Rattle.take_format.specs.Calls.{encodeBuffer}
-use Rattle.take_format.proofs.RefusalLaws.{bits-accepted}
-use Rattle.take_format.proofs.CallLaws.{later-refused, buffer-some, buffer-none}
+use Rattle.take_format.proofs.checks.RefusalLaws.{bits-accepted}
+use Rattle.take_format.proofs.checks.CallLaws.{later-refused, buffer-some, buffer-none}
 use Rattle.refusal.specs.Checked.{checked}
 use Rattle.refusal.specs.Named.{codeOf}
 use Rattle.encoder.specs.Outcome.{encodedOf}

@@ -5,8 +5,8 @@ use mathlib.Core.Path.{_≡_, ap, ap₂, sym, _∙_}
 use borrow.Author.Needs.{needs}
 use lib.ListN.{length, drop}
 use lib.Seq.{drop-length}
-use Rattle.bch.proofs.Entries.{below-drop, below-at}
-use Rattle.bch.proofs.Division.{step, remainder, remainder-lt, remainder-drop}
+use Rattle.bch.proofs.codes.Entries.{below-drop, below-at}
+use Rattle.bch.proofs.encoding.Division.{step, remainder, remainder-lt, remainder-drop}
 use Rattle.encoder.proofs.division.parity.Statement.{statement}
 use Rattle.encoder.proofs.division.parity.Tie as tie
 

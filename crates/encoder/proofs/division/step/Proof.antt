@@ -3,7 +3,7 @@ use Prim.Native.Nat.{_^_, _≤_}
 use native.Mathlib.Nat.{mul-le-mul}
 use native.Mathlib.Omega.{arith}
 use lib.Pow.{pow-mono}
-use Rattle.bch.proofs.Division.{shifted, step-added, step-kept}
+use Rattle.bch.proofs.encoding.Division.{shifted, step-added, step-kept}
 use Rattle.encoder.proofs.division.step.Statement.{statement}
 use Rattle.encoder.proofs.division.step.Tie as tie
 

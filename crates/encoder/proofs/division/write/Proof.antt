@@ -6,9 +6,9 @@ use mathlib.Core.Path.{ap, _∙_}
 use mathlib.Core.List.{List, _++_}
 use borrow.Author.Needs.{needs}
 use lib.ListN.{take, drop}
-use Rattle.bch.proofs.Settings.{lawful}
-use Rattle.bch.proofs.GeneratorLaws.{suits-all}
-use Rattle.bch.proofs.EncodeLaws.{encoded-written}
+use Rattle.bch.proofs.codes.Settings.{lawful}
+use Rattle.bch.proofs.encoding.GeneratorLaws.{suits-all}
+use Rattle.bch.proofs.encoding.EncodeLaws.{encoded-written}
 use Rattle.refusal.specs.Named.{codeOf}
 use Rattle.encoder.proofs.division.write.Statement.{statement}
 use Rattle.encoder.proofs.division.write.Tie as tie

@@ -5,7 +5,7 @@ use mathlib.Core.Path.{_≡_, refl}
 use borrow.Author.Needs.{needs}
 use lib.ListN.{length, length-set}
 use lib.Seq.{paste, paste-zero}
-use Rattle.bch.proofs.Copies.{copied-more, copied-end}
+use Rattle.bch.proofs.codes.Copies.{copied-more, copied-end}
 use Rattle.encoder.proofs.division.write_message.Statement.{statement}
 use Rattle.encoder.proofs.division.write_message.Tie as tie
 

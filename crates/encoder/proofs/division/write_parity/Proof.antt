@@ -8,8 +8,8 @@ use borrow.Author.Needs.{needs}
 use lib.ListN.{length, length-set}
 use lib.Pow.{shr-shr}
 use lib.Seq.{paste, paste-zero}
-use Rattle.bch.proofs.Copies.{copied-more, copied-all}
-use Rattle.bch.proofs.Numbers.{word, length-word, word-at}
+use Rattle.bch.proofs.codes.Copies.{copied-more, copied-all}
+use Rattle.bch.proofs.encoding.Numbers.{word, length-word, word-at}
 use Rattle.encoder.proofs.division.write_parity.Statement.{statement}
 use Rattle.encoder.proofs.division.write_parity.Tie as tie
 

@@ -5,7 +5,7 @@ use mathlib.Core.Path.{_≡_, ap, sym, _∙_}
 use mathlib.Core.List.{_++_}
 use borrow.Author.Needs.{needs}
 use lib.ListN.{length, take, drop, replicate, length-take}
-use Rattle.bch.proofs.Entries.{below-take, below-zeros}
+use Rattle.bch.proofs.codes.Entries.{below-take, below-zeros}
 use Rattle.take_format.specs.Batch.{Totals}
 use Rattle.takes.specs.Answer.{headerOf}
 use Rattle.listing.specs.Text.{totalsLine}

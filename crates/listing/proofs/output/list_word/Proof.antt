@@ -6,9 +6,9 @@ use borrow.Author.Needs.{needs}
 use lib.ListN.{length, take, drop, length-take, length-drop}
 use lib.Seq.{take-all}
 use Rattle.bch.specs.Words.{Bits}
-use Rattle.bch.proofs.Entries.{below-take, below-drop}
+use Rattle.bch.proofs.codes.Entries.{below-take, below-drop}
 use Rattle.take_format.specs.Batch.{markByte, countedOf}
-use Rattle.take_format.proofs.Batches.{Few, few-more, few-capped}
+use Rattle.take_format.proofs.takes.Batches.{Few, few-more, few-capped}
 use Rattle.receiver.specs.Answer.{totalsTold}
 use Rattle.receiver.proofs.Marks.{counts}
 use Rattle.takes.specs.Answer.{headerOf}

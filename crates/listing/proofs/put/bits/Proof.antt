@@ -5,7 +5,7 @@ use mathlib.Core.Path.{_≡_, refl}
 use borrow.Author.Needs.{needs}
 use lib.ListN.{length, length-set}
 use lib.Seq.{paste, paste-zero}
-use Rattle.bch.proofs.Entries.{below-at}
+use Rattle.bch.proofs.codes.Entries.{below-at}
 use Rattle.listing.specs.Text.{bitsText}
 use Rattle.listing.proofs.Texts.{put-more, put-all, bits-long, bits-at}
 use Rattle.listing.proofs.put.bits.Statement.{statement}

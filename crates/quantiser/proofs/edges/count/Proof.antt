@@ -5,7 +5,7 @@ use native.Mathlib.Omega.{arith}
 use borrow.Author.Needs.{needs}
 use lib.ListN.{length, drop}
 use Rattle.take_format.specs.Samples.{edgesAtMost}
-use Rattle.take_format.proofs.SampleSteps.{count-more, count-end}
+use Rattle.take_format.proofs.quantisation.SampleSteps.{count-more, count-end}
 use Rattle.quantiser.proofs.edges.count.Statement.{statement}
 use Rattle.quantiser.proofs.edges.count.Tie as tie
 

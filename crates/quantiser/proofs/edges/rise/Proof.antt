@@ -6,7 +6,7 @@ use borrow.Author.Needs.{needs}
 use lib.ListN.{length, drop}
 use lib.Ieee.{ofBits}
 use Rattle.take_format.specs.Samples.{zeroLevel, rising}
-use Rattle.take_format.proofs.SampleSteps.{rising-more, rising-not, rising-end}
+use Rattle.take_format.proofs.quantisation.SampleSteps.{rising-more, rising-not, rising-end}
 use Rattle.quantiser.proofs.edges.rise.Statement.{statement}
 use Rattle.quantiser.proofs.edges.rise.Tie as tie
 

@@ -6,7 +6,7 @@ use mathlib.Core.Logic.{⊎-elim}
 use borrow.Author.Needs.{needs}
 use lib.ListN.{length, drop}
 use Rattle.take_format.specs.Samples.{samplesCheck}
-use Rattle.take_format.proofs.SampleSteps.{check-kind, check-nan, check-blank, check-heard, check-end}
+use Rattle.take_format.proofs.quantisation.SampleSteps.{check-kind, check-nan, check-blank, check-heard, check-end}
 use Rattle.refusal.specs.Checked.{checked}
 use Rattle.quantiser.proofs.Bad.{bad-nan, not-bad}
 use Rattle.quantiser.proofs.samples.check.Statement.{statement}

@@ -5,10 +5,10 @@ use native.Mathlib.Omega.{arith}
 use borrow.Author.Needs.{needs}
 use lib.ListN.{length, length-set}
 use lib.Seq.{paste}
-use Rattle.bch.proofs.Copies.{copied-more, copied-end}
+use Rattle.bch.proofs.codes.Copies.{copied-more, copied-end}
 use Rattle.take_format.specs.Samples.{quantised, symbol as Samples·symbol}
-use Rattle.take_format.proofs.SampleLaws.{length-quantised}
-use Rattle.take_format.proofs.SampleSteps.{quantised-at}
+use Rattle.take_format.proofs.quantisation.SampleLaws.{length-quantised}
+use Rattle.take_format.proofs.quantisation.SampleSteps.{quantised-at}
 use Rattle.quantiser.proofs.samples.write.Statement.{statement}
 use Rattle.quantiser.proofs.samples.write.Tie as tie
 

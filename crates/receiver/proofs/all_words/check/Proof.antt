@@ -5,10 +5,10 @@ use mathlib.Core.Path.{_≡_, ap, sym, _∙_}
 use borrow.Author.Tests.{le-leb, lt-leb, eq-eqb, ne-eqb}
 use lib.ListN.{length}
 use Rattle.bch.specs.Code.{messageLength}
-use Rattle.bch.proofs.Settings.{word-short}
+use Rattle.bch.proofs.codes.Settings.{word-short}
 use Rattle.take_format.specs.Refusal.{symbolBytes, wordsCheck}
-use Rattle.take_format.proofs.RefusalLaws.{first-last}
-use Rattle.take_format.proofs.Batches.{words-small}
+use Rattle.take_format.proofs.checks.RefusalLaws.{first-last}
+use Rattle.take_format.proofs.takes.Batches.{words-small}
 use Rattle.refusal.specs.Named.{codeOf}
 use Rattle.receiver.proofs.all_words.check.Statement.{statement}
 use Rattle.receiver.proofs.all_words.check.Tie as tie

@@ -6,7 +6,7 @@ use borrow.Author.Needs.{needs}
 use lib.ListN.{length, replicate, length-set, length-replicate}
 use lib.Seq.{paste}
 use Rattle.galois.proofs.FieldTables.{zeros}
-use Rattle.bch.proofs.Copies.{copied-more, copied-end}
+use Rattle.bch.proofs.codes.Copies.{copied-more, copied-end}
 use Rattle.receiver.proofs.all_words.clear.Statement.{statement}
 use Rattle.receiver.proofs.all_words.clear.Tie as tie
 

@@ -6,8 +6,8 @@ use mathlib.Core.Logic.{inr}
 use mathlib.Core.List.{List}
 use Rattle.chase.specs.Soft.{Answer}
 use Rattle.take_format.specs.Batch.{answersTo, messagesOf, marksOf, totalsOf}
-use Rattle.take_format.proofs.RefusalLaws.{WordsChecked, words-checked}
-use Rattle.take_format.proofs.CallLaws.{answered-some, answered-none, buffer-some, buffer-none}
+use Rattle.take_format.proofs.checks.RefusalLaws.{WordsChecked, words-checked}
+use Rattle.take_format.proofs.checks.CallLaws.{answered-some, answered-none, buffer-some, buffer-none}
 use Rattle.refusal.specs.Checked.{checked}
 use Rattle.refusal.specs.Named.{codeOf}
 use Rattle.receiver.specs.Answer.{wordsOf}

@@ -8,13 +8,13 @@ use mathlib.Core.List.{List}
 use lib.ListN.{length, take, drop, length-take, length-drop, length-set}
 use lib.Pow.{pow-mono}
 use Rattle.bch.specs.Code.{Code, messageLength}
-use Rattle.bch.proofs.Settings.{word-short}
-use Rattle.bch.proofs.Entries.{below-take, below-drop}
+use Rattle.bch.proofs.codes.Settings.{word-short}
+use Rattle.bch.proofs.codes.Entries.{below-take, below-drop}
 use Rattle.chase.specs.Soft.{softStage}
 use Rattle.chase.specs.Word.{Symbols}
 use Rattle.take_format.specs.Batch.{message, markByte, countedOf}
-use Rattle.take_format.proofs.Batches.{words-small, Few, few-more, few-capped, Done, done-start, done-more, done-end}
-use Rattle.take_format.proofs.PromiseLaws.{message-long, tries-most}
+use Rattle.take_format.proofs.takes.Batches.{words-small, Few, few-more, few-capped, Done, done-start, done-more, done-end}
+use Rattle.take_format.proofs.takes.PromiseLaws.{message-long, tries-most}
 use Rattle.refusal.specs.Named.{codeOf}
 use Rattle.receiver.specs.Answer.{totalsTold}
 use borrow.Author.Needs.{needs}

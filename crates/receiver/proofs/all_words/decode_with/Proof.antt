@@ -4,7 +4,7 @@ use native.Mathlib.Omega.{arith}
 use mathlib.Core.Path.{_≡_, sym, _∙_}
 use lib.ListN.{length, take, replicate, length-take}
 use Rattle.galois.proofs.FieldTables.{zeros}
-use Rattle.bch.proofs.Settings.{word-short}
+use Rattle.bch.proofs.codes.Settings.{word-short}
 use Rattle.refusal.specs.Named.{codeOf}
 use Rattle.receiver.proofs.all_words.decode_with.Statement.{statement}
 use Rattle.receiver.proofs.all_words.decode_with.Tie as tie

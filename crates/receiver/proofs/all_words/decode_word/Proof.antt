@@ -10,7 +10,7 @@ use lib.Seq.{take-all}
 use Rattle.bch.specs.Code.{Code, parityLength, messageLength}
 use Rattle.chase.specs.Soft.{Answer, softStage, softWritten}
 use Rattle.take_format.specs.Batch.{message, markByte}
-use Rattle.take_format.proofs.Batches.{message-lost, message-found}
+use Rattle.take_format.proofs.takes.Batches.{message-lost, message-found}
 use Rattle.refusal.specs.Named.{codeOf}
 use Rattle.receiver.proofs.Marks.{outcome-told, outcome-lost, outcome-found, word-written}
 use Rattle.receiver.proofs.all_words.decode_word.Statement.{statement}

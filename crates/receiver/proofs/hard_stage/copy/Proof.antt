@@ -5,7 +5,7 @@ use mathlib.Core.Path.{_≡_, refl}
 use borrow.Author.Needs.{needs}
 use lib.ListN.{length, length-set}
 use lib.Seq.{paste}
-use Rattle.bch.proofs.Copies.{copied-more, copied-end}
+use Rattle.bch.proofs.codes.Copies.{copied-more, copied-end}
 use Rattle.receiver.proofs.hard_stage.copy.Statement.{statement}
 use Rattle.receiver.proofs.hard_stage.copy.Tie as tie
 

@@ -3,8 +3,8 @@ use mathlib.Core.Path.{_≡_, ap, sym, _∙_}
 use mathlib.Core.Option.{none}
 use lib.ListN.{length}
 use Rattle.take_format.specs.Refusal.{bitsCheck}
-use Rattle.take_format.proofs.RefusalLaws.{bits-checked}
-use Rattle.take_format.proofs.CallLaws.{answered-some, answered-none, buffer-some, buffer-none}
+use Rattle.take_format.proofs.checks.RefusalLaws.{bits-checked}
+use Rattle.take_format.proofs.checks.CallLaws.{answered-some, answered-none, buffer-some, buffer-none}
 use Rattle.refusal.specs.Checked.{checked}
 use Rattle.receiver.specs.Answer.{hardOf}
 use Rattle.receiver.proofs.hard_stage.decode.Statement.{statement}

@@ -4,10 +4,10 @@ use native.Mathlib.Omega.{arith}
 use mathlib.Core.Path.{_≡_, sym, ap, _∙_, subst}
 use mathlib.Core.List.{List, [], _∷_}
 use lib.ListN.{length, getD, drop}
-use Rattle.bch.proofs.FewRepairs.{few-repairs, few-placed}
-use Rattle.bch.proofs.LogAnswers.{syndromes-in, repairs-in, found-placed}
-use Rattle.bch.proofs.LogBounds.{Syndromes}
-use Rattle.bch.proofs.Seeking.{next-one}
+use Rattle.bch.proofs.logarithms.FewRepairs.{few-repairs, few-placed}
+use Rattle.bch.proofs.logarithms.LogAnswers.{syndromes-in, repairs-in, found-placed}
+use Rattle.bch.proofs.logarithms.LogBounds.{Syndromes}
+use Rattle.bch.proofs.logarithms.Seeking.{next-one}
 use Rattle.refusal.specs.Named.{codeOf}
 use Rattle.receiver.proofs.Powers.{powers-part}
 use Rattle.receiver.proofs.hard_stage.decode_in.Statement.{statement}

@@ -5,8 +5,8 @@ use mathlib.Core.Path.{_≡_}
 use borrow.Author.Needs.{needs}
 use lib.ListN.{length, getD, take, drop, length-set}
 use Rattle.bch.specs.Words.{Bits, flippedAt}
-use Rattle.bch.proofs.Entries.{below-at, below-set}
-use Rattle.bch.proofs.Repairs.{flip-more, flip-end}
+use Rattle.bch.proofs.codes.Entries.{below-at, below-set}
+use Rattle.bch.proofs.logarithms.Repairs.{flip-more, flip-end}
 use Rattle.receiver.proofs.hard_stage.flip_at.Statement.{statement}
 use Rattle.receiver.proofs.hard_stage.flip_at.Tie as tie
 

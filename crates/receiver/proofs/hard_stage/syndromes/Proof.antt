@@ -5,9 +5,9 @@ use mathlib.Core.Path.{_≡_, refl}
 use lib.Bits.{bitXor}
 use lib.ListN.{length, drop}
 use Rattle.bch.specs.Code.{syndrome}
-use Rattle.bch.proofs.Settings.{primitive-of}
-use Rattle.bch.proofs.Entries.{below-at}
-use Rattle.bch.proofs.SyndromeSums.{sums, sums-acc, sums-end}
+use Rattle.bch.proofs.codes.Settings.{primitive-of}
+use Rattle.bch.proofs.codes.Entries.{below-at}
+use Rattle.bch.proofs.tables.SyndromeSums.{sums, sums-acc, sums-end}
 use Rattle.refusal.specs.Named.{codeOf}
 use borrow.Author.Needs.{needs}
 use Rattle.receiver.proofs.hard_stage.syndromes.Statement.{statement}

@@ -8,7 +8,7 @@ use Prim.Native.Nat.{ℕ}
 use borrow.Author.Tests.{not-true, not-false}
 use lib.ListN.{length, take}
 use Rattle.bch.specs.Words.{flippedAt}
-use Rattle.bch.proofs.Repairs.{lost-answer, found-answer}
+use Rattle.bch.proofs.logarithms.Repairs.{lost-answer, found-answer}
 use Rattle.refusal.specs.Named.{codeOf}
 use Rattle.receiver.specs.Answer.{hardOf}
 use Rattle.receiver.proofs.hard_stage.write.Statement.{statement}

@@ -3,8 +3,8 @@ use Prim.Native.Nat.{ℕ, _%_, _^_, _<_}
 use mathlib.Core.Path.{ap, sym}
 use native.Mathlib.Omega.{arith}
 use borrow.Author.Needs.{needs}
-use Rattle.bch.proofs.LogSteps.{cubes-lost, cubes-odd, cubes-found}
-use Rattle.bch.proofs.LogBounds.{power-lt}
+use Rattle.bch.proofs.logarithms.LogSteps.{cubes-lost, cubes-odd, cubes-found}
+use Rattle.bch.proofs.logarithms.LogBounds.{power-lt}
 use mathlib.Core.Path.{subst}
 use Rattle.receiver.proofs.locate.by_cubes.Statement.{statement}
 use Rattle.receiver.proofs.locate.by_cubes.Tie as tie

@@ -3,8 +3,8 @@ use Prim.Native.Nat.{ℕ, _%_, _^_, _<_}
 use mathlib.Core.Path.{refl, ap, sym}
 use native.Mathlib.Omega.{arith}
 use borrow.Author.Needs.{needs}
-use Rattle.bch.proofs.LogSteps.{kappa-lost, kappa-found}
-use Rattle.bch.proofs.LogBounds.{power-lt, roots-lt}
+use Rattle.bch.proofs.logarithms.LogSteps.{kappa-lost, kappa-found}
+use Rattle.bch.proofs.logarithms.LogBounds.{power-lt, roots-lt}
 use mathlib.Core.Path.{subst}
 use Rattle.receiver.proofs.locate.by_kappa.Statement.{statement}
 use Rattle.receiver.proofs.locate.by_kappa.Tie as tie

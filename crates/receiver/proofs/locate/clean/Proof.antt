@@ -1,7 +1,7 @@
 -- No position is found, and nothing is lost. Assumes nothing.
 use native.Mathlib.Omega.{arith}
 use mathlib.Core.Path.{refl}
-use Rattle.bch.proofs.Placing.{positions}
+use Rattle.bch.proofs.tables.Placing.{positions}
 use Rattle.receiver.proofs.locate.clean.Statement.{statement}
 use Rattle.receiver.proofs.locate.clean.Tie as tie
 

@@ -2,8 +2,8 @@
 use mathlib.Core.Path.{sym, ap, _∙_}
 use mathlib.Core.List.{[], _∷_}
 use Prim.Native.Nat.{ℕ}
-use Rattle.bch.proofs.Elements.{zero-is, zero-not}
-use Rattle.bch.proofs.KappaSums.{within}
+use Rattle.bch.proofs.decoding.Elements.{zero-is, zero-not}
+use Rattle.bch.proofs.decoding.KappaSums.{within}
 use Rattle.receiver.proofs.locate.few.Statement.{statement}
 use Rattle.receiver.proofs.locate.few.Tie as tie
 use borrow.Author.Needs.{needs}

@@ -2,8 +2,8 @@
 use mathlib.Core.Path.{refl, ap}
 use native.Mathlib.Omega.{arith}
 use borrow.Author.Needs.{needs}
-use Rattle.bch.proofs.LogSteps.{locate-none, locate-one, locate-single, locate-two-zero, locate-two, locate-flat, locate-cubes, locate-kappa}
-use Rattle.bch.proofs.LogBounds.{rest-lt, rest-two}
+use Rattle.bch.proofs.logarithms.LogSteps.{locate-none, locate-one, locate-single, locate-two-zero, locate-two, locate-flat, locate-cubes, locate-kappa}
+use Rattle.bch.proofs.logarithms.LogBounds.{rest-lt, rest-two}
 use lib.Bits.{bitXor}
 use Rattle.receiver.proofs.locate.locate.Statement.{statement}
 use Rattle.receiver.proofs.locate.locate.Tie as tie

@@ -1,7 +1,7 @@
 -- This function meets its contract. Assumes nothing.
 use native.Mathlib.Omega.{arith}
 use mathlib.Core.Path.{refl}
-use Rattle.bch.proofs.Placing.{positions}
+use Rattle.bch.proofs.tables.Placing.{positions}
 use Rattle.receiver.proofs.locate.lost.Statement.{statement}
 use Rattle.receiver.proofs.locate.lost.Tie as tie
 

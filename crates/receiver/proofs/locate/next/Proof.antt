@@ -6,9 +6,9 @@ use mathlib.Core.Bool.{Bool, true, false}
 use mathlib.Core.List.{List}
 use mathlib.Core.Option.{Option, none}
 use lib.ListN.{length, getD}
-use Rattle.bch.proofs.Placing.{positions}
-use Rattle.bch.proofs.LogLocator.{locateIn}
-use Rattle.bch.proofs.Seeking.{Missed, missed-more, next-there, next-none}
+use Rattle.bch.proofs.tables.Placing.{positions}
+use Rattle.bch.proofs.logarithms.LogLocator.{locateIn}
+use Rattle.bch.proofs.logarithms.Seeking.{Missed, missed-more, next-there, next-none}
 use Rattle.refusal.specs.declared.Code.{Code}
 use borrow.Author.Needs.{needs}
 use Rattle.receiver.proofs.locate.next.Statement.{statement}

@@ -2,8 +2,8 @@
 use mathlib.Core.Path.{refl, _∙_}
 use native.Mathlib.Omega.{arith}
 use borrow.Author.Needs.{needs}
-use Rattle.bch.proofs.Placing.{positions}
-use Rattle.bch.proofs.LogSteps.{one-lost, one-found}
+use Rattle.bch.proofs.tables.Placing.{positions}
+use Rattle.bch.proofs.logarithms.LogSteps.{one-lost, one-found}
 use Rattle.receiver.proofs.locate.one.Statement.{statement}
 use Rattle.receiver.proofs.locate.one.Tie as tie
 

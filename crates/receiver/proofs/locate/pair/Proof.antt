@@ -1,6 +1,6 @@
 -- This function meets its contract. Assumes nothing.
 use borrow.Author.Needs.{needs}
-use Rattle.bch.proofs.LogSteps.{pair-lost, pair-found}
+use Rattle.bch.proofs.logarithms.LogSteps.{pair-lost, pair-found}
 use Rattle.receiver.proofs.locate.pair.Statement.{statement}
 use Rattle.receiver.proofs.locate.pair.Tie as tie
 

@@ -2,7 +2,7 @@
 use Prim.Native.Nat.{ℕ}
 use mathlib.Core.Path.{ap, _∙_}
 use lib.Bits.{bitXor}
-use Rattle.bch.proofs.CodeTables.{powersIn}
+use Rattle.bch.proofs.tables.CodeTables.{powersIn}
 use Rattle.receiver.proofs.locate.rest_of.Statement.{statement}
 use Rattle.receiver.proofs.locate.rest_of.Tie as tie
 use borrow.Author.Needs.{needs}

@@ -3,7 +3,7 @@ use native.Mathlib.Omega.{arith}
 use mathlib.Core.Path.{refl}
 use borrow.Author.Needs.{needs}
 use lib.Bits.{bitXor, xor-lt}
-use Rattle.bch.proofs.LogSteps.{trio-first, trio-second, trio-third, trio-all}
+use Rattle.bch.proofs.logarithms.LogSteps.{trio-first, trio-second, trio-third, trio-all}
 use Rattle.receiver.proofs.locate.trio.Statement.{statement}
 use Rattle.receiver.proofs.locate.trio.Tie as tie
 

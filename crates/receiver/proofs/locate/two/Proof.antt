@@ -2,8 +2,8 @@
 use mathlib.Core.Path.{refl, _∙_}
 use native.Mathlib.Omega.{arith}
 use borrow.Author.Needs.{needs}
-use Rattle.bch.proofs.Placing.{positions}
-use Rattle.bch.proofs.LogSteps.{first-lost, second-lost, two-found}
+use Rattle.bch.proofs.tables.Placing.{positions}
+use Rattle.bch.proofs.logarithms.LogSteps.{first-lost, second-lost, two-found}
 use mathlib.Core.List.{[], _∷_}
 use Rattle.receiver.proofs.locate.two.Statement.{statement}
 use Rattle.receiver.proofs.locate.two.Tie as tie

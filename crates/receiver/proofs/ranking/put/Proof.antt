@@ -6,7 +6,7 @@ use mathlib.Core.Logic.{⊎-elim}
 use mathlib.Core.List.{_++_}
 use borrow.Author.Needs.{needs}
 use lib.ListN.{length, take, drop, length-set}
-use Rattle.chase.proofs.Keys.{put, put-here, put-past, put-end}
+use Rattle.chase.proofs.ranking.Keys.{put, put-here, put-past, put-end}
 use Rattle.receiver.proofs.ranking.put.Statement.{statement}
 use Rattle.receiver.proofs.ranking.put.Tie as tie
 

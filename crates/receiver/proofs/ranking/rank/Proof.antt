@@ -6,7 +6,7 @@ use mathlib.Core.Logic.{⊎-elim}
 use borrow.Author.Needs.{needs}
 use lib.ListN.{length, getD, take, drop, replicate, getD-replicate}
 use Rattle.chase.specs.Soft.{reliabilities}
-use Rattle.chase.proofs.Keys.{kept, Rising, rising-put, rising-replicate, length-put, take-replicate, kept-in, kept-out, kept-end, kept-weakest}
+use Rattle.chase.proofs.ranking.Keys.{kept, Rising, rising-put, rising-replicate, length-put, take-replicate, kept-in, kept-out, kept-end, kept-weakest}
 use Rattle.receiver.proofs.ranking.rank.Statement.{statement}
 use Rattle.receiver.proofs.ranking.rank.Tie as tie
 

@@ -5,7 +5,7 @@ use mathlib.Core.Path.{_≡_, refl, sym, _∙_}
 use mathlib.Core.Bool.{true, false}
 use borrow.Author.Tests.{le-leb, lt-leb}
 use lib.ListN.{take}
-use Rattle.chase.proofs.Allowances.{weighed}
+use Rattle.chase.proofs.ranking.Allowances.{weighed}
 use Rattle.receiver.specs.Search.{nearerPick, judgedBy}
 use Rattle.receiver.proofs.search.judged.Statement.{statement}
 use Rattle.receiver.proofs.search.judged.Tie as tie

@@ -6,7 +6,7 @@ use mathlib.Core.Bool.{true, false}
 use mathlib.Core.List.{[], _∷_}
 use lib.ListN.{length}
 use lib.Pow.{pow-pos}
-use Rattle.chase.proofs.Ready.{sums-first, weights-first}
+use Rattle.chase.proofs.search.Ready.{sums-first, weights-first}
 use Rattle.refusal.specs.Named.{codeOf}
 use Rattle.receiver.specs.Search.{TestWords}
 use Rattle.receiver.proofs.Outcomes.{tried-none, tried-all}

@@ -7,12 +7,12 @@ use mathlib.Core.Path.{_≡_, refl, ap, sym, _∙_}
 use mathlib.Core.Bool.{true, false}
 use lib.ListN.{length, take, set, replicate}
 use lib.Seq.{length-take-le}
-use Rattle.bch.proofs.LogAnswers.{syndromesOf}
+use Rattle.bch.proofs.logarithms.LogAnswers.{syndromesOf}
 use Rattle.chase.specs.Soft.{hardBits, reliabilities}
 use Rattle.chase.specs.Word.{test}
-use Rattle.chase.proofs.Doublings.{Holds, size-most}
-use Rattle.chase.proofs.Weights.{packedWeight}
-use Rattle.chase.proofs.Ready.{key-below, sums-first, sums-next, weights-first, weights-next, weights-small}
+use Rattle.chase.proofs.test_words.Doublings.{Holds, size-most}
+use Rattle.chase.proofs.weighing.Weights.{packedWeight}
+use Rattle.chase.proofs.search.Ready.{key-below, sums-first, sums-next, weights-first, weights-next, weights-small}
 use Rattle.refusal.specs.Named.{codeOf}
 use Rattle.receiver.specs.Search.{Tried}
 use Rattle.receiver.proofs.Turns.{test-words}
@@ -40,11 +40,18 @@ loop-holds : tie.Need-loop-holds Inv-loop μ-loop
 loop-holds c =
     let s = c .before .before .before in
     let a = s .args in
-    let r = s .pre .0 .0 .deep .ready in
-    (omega arith, refl, refl, refl,
-    sums-first (a .s .now) (a .keys .at) (a .p) r (codeOf (a .c)) (a .base) (set (replicate 64 0) 0 (a .base)) (s .pre .0 .1) refl,
-    weights-first (a .s .now) (a .keys .at) (a .p) r (replicate 64 0) refl,
-    s .pre .1 .0, s .pre .1 .1, omega (arith, s .pre .1 .2), λ _. s .pre .1 .2)
+    let r = s .pre .0 .0 .deep .ready in (
+      omega arith,
+      refl,
+      refl,
+      refl,
+      sums-first (a .s .now) (a .keys .at) (a .p) r (codeOf (a .c)) (a .base) (set (replicate 64 0) 0 (a .base)) (s .pre .0 .1) refl,
+      weights-first (a .s .now) (a .keys .at) (a .p) r (replicate 64 0) refl,
+      s .pre .1 .0,
+      s .pre .1 .1,
+      omega (arith, s .pre .1 .2),
+      λ _. s .pre .1 .2,
+    )
 
 mul-double : tie.Need-mul-double Inv-loop μ-loop
 mul-double c = search needs
@@ -130,7 +137,7 @@ try-on-requires c κs =
     ((r, ready .0), (l .inv .6, l .inv .7, omega (arith, ready .1, l .inv .1, l .inv .8)))
 
 returns : tie.Need-returns Inv-loop μ-loop
-returns c =     (c .before .try-on .ensures .0, λ z. no-bool (sym (c .if2 .taken) ∙ z))
+returns c = (c .before .try-on .ensures .0, λ z. no-bool (sym (c .if2 .taken) ∙ z))
 
 loop-less : tie.Need-loop-less Inv-loop μ-loop
 loop-less c = search needs
@@ -173,9 +180,18 @@ loop-again-2 c =
     more (l .inv .1) refl (d .0) (l .inv .4) in
     let weights =
     weights-next (a .s .now) (a .keys .at) (a .p) (r .deep .ready) (l .b) (l .to) _ (l .weights) _ more (l .inv .1) refl (d .1) (l .inv .5) in
-    let later = c .before .due .ensures (c .if1 .left) in
-    (omega arith, omega (arith, l .inv .1), d .0 .long ∙ l .inv .2, d .1 .long ∙ l .inv .3, sums, weights, l .inv .6, l .inv .7,
-    omega (arith, l .inv .8), λ q. absurd (omega arith))
+    let later = c .before .due .ensures (c .if1 .left) in (
+      omega arith,
+      omega (arith, l .inv .1),
+      d .0 .long ∙ l .inv .2,
+      d .1 .long ∙ l .inv .3,
+      sums,
+      weights,
+      l .inv .6,
+      l .inv .7,
+      omega (arith, l .inv .8),
+      λ q. absurd (omega arith),
+    )
 
 returns-2 : tie.Need-returns-2 Inv-loop μ-loop
 returns-2 c =

@@ -6,7 +6,7 @@ use mathlib.Core.Bool.{Bool, true, false}
 use borrow.Author.Tests.{not-true, not-false}
 use lib.ListN.{length, take}
 use lib.Pow.{pow-mono}
-use Rattle.chase.proofs.Allowances.{weighed}
+use Rattle.chase.proofs.ranking.Allowances.{weighed}
 use Rattle.refusal.specs.Named.{codeOf}
 use Rattle.receiver.specs.Search.{judgedBy, Tried}
 use Rattle.receiver.specs.declared.search.Outcome.{Outcome}

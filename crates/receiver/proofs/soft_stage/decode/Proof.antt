@@ -5,8 +5,8 @@ use mathlib.Core.Option.{Option}
 use lib.ListN.{length}
 use Rattle.chase.specs.Soft.{softStage, softWritten}
 use Rattle.take_format.specs.Refusal.{Refusal, symbolsCheck}
-use Rattle.take_format.proofs.RefusalLaws.{symbols-accepted}
-use Rattle.take_format.proofs.CallLaws.{answered-some, answered-none, buffer-some, buffer-none}
+use Rattle.take_format.proofs.checks.RefusalLaws.{symbols-accepted}
+use Rattle.take_format.proofs.checks.CallLaws.{answered-some, answered-none, buffer-some, buffer-none}
 use Rattle.refusal.specs.Checked.{checked}
 use Rattle.refusal.specs.Named.{codeOf}
 use Rattle.receiver.specs.Answer.{softOf}

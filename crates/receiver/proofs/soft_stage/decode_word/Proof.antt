@@ -6,7 +6,7 @@ use borrow.Author.Tests.{not-true, not-false}
 use lib.ListN.{length}
 use Rattle.bch.specs.Code.{designDistance}
 use Rattle.chase.specs.Soft.{Answer, softWritten}
-use Rattle.chase.proofs.Ready.{Deep}
+use Rattle.chase.proofs.search.Ready.{Deep}
 use Rattle.refusal.specs.Named.{codeOf}
 use Rattle.receiver.proofs.Tellings.{written-none, written-some}
 use Rattle.receiver.proofs.soft_stage.decode_word.Statement.{statement}

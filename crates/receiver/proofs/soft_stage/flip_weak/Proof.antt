@@ -7,12 +7,12 @@ use mathlib.Core.List.{List}
 use borrow.Author.Needs.{needs}
 use lib.ListN.{length, getD, drop}
 use Rattle.bch.specs.Words.{Bits, flip, Distinct}
-use Rattle.bch.proofs.Counting.{bits-flip, length-flip}
-use Rattle.bch.proofs.Entries.{below-at}
-use Rattle.bch.proofs.Flipped.{distinct-at}
+use Rattle.bch.proofs.codes.Counting.{bits-flip, length-flip}
+use Rattle.bch.proofs.codes.Entries.{below-at}
+use Rattle.bch.proofs.codes.Flipped.{distinct-at}
 use Rattle.chase.specs.Soft.{testWord}
-use Rattle.chase.proofs.Ready.{placesOf, long-places, at-places}
-use Rattle.chase.proofs.TestWords.{weak-flip, weak-keep, weak-end}
+use Rattle.chase.proofs.search.Ready.{placesOf, long-places, at-places}
+use Rattle.chase.proofs.test_words.TestWords.{weak-flip, weak-keep, weak-end}
 use Rattle.receiver.proofs.soft_stage.flip_weak.Statement.{statement}
 use Rattle.receiver.proofs.soft_stage.flip_weak.Tie as tie
 

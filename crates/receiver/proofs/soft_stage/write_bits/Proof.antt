@@ -5,8 +5,8 @@ use mathlib.Core.Path.{_≡_, refl}
 use borrow.Author.Count.{below-none}
 use borrow.Author.Needs.{needs}
 use lib.ListN.{length, getD, length-set}
-use Rattle.chase.proofs.Doublings.{Holds, holds-more}
-use Rattle.chase.proofs.TestWords.{hard-filled}
+use Rattle.chase.proofs.test_words.Doublings.{Holds, holds-more}
+use Rattle.chase.proofs.test_words.TestWords.{hard-filled}
 use Rattle.receiver.proofs.soft_stage.write_bits.Statement.{statement}
 use Rattle.receiver.proofs.soft_stage.write_bits.Tie as tie
 

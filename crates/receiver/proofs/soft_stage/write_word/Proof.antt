@@ -4,8 +4,8 @@ use native.Mathlib.Omega.{arith}
 use mathlib.Core.Path.{_≡_, ap, _∙_}
 use borrow.Author.Needs.{needs}
 use lib.ListN.{length}
-use Rattle.chase.proofs.Reach.{bits-hard, length-hard, bits-test, length-test}
-use Rattle.chase.proofs.Ready.{placesOf, places-weak, weak-distinct}
+use Rattle.chase.proofs.test_words.Reach.{bits-hard, length-hard, bits-test, length-test}
+use Rattle.chase.proofs.search.Ready.{placesOf, places-weak, weak-distinct}
 use Rattle.receiver.proofs.soft_stage.write_word.Statement.{statement}
 use Rattle.receiver.proofs.soft_stage.write_word.Tie as tie
 

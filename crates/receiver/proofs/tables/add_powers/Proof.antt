@@ -3,15 +3,15 @@ use Prim.Native.Nat.{ℕ, _+_, _-_, _*_, _%_, _^_, _≤_, _<_}
 use mathlib.Core.Path.{_≡_, refl, ap, sym, _∙_}
 use native.Mathlib.Omega.{arith}
 use borrow.Author.Needs.{needs}
-use Rattle.bch.proofs.TableFills.{FieldPart, stage, mixed, mixed-none, mixed-more, mixed-all}
-use Rattle.bch.proofs.TableLoops.{Turn, TurnIn, turn-none, turn-in, turn-inside, turn-more, turn-out, turn-power}
+use Rattle.bch.proofs.tables.TableFills.{FieldPart, stage, mixed, mixed-none, mixed-more, mixed-all}
+use Rattle.bch.proofs.tables.TableLoops.{Turn, TurnIn, turn-none, turn-in, turn-inside, turn-more, turn-out, turn-power}
 use lib.ListN.{length, getD, set, length-set}
 use Rattle.galois.proofs.Primitive.{Primitive, primitive-5-10}
 use mathlib.Core.Logic.{_⊎_, inl, inr}
 use mathlib.Core.Path.{subst}
 use mathlib.Core.Logic.{⊎-elim}
 use native.Mathlib.Nat.{mul-le-mul}
-use Rattle.bch.proofs.TableFills.{mixed-here, stage-low}
+use Rattle.bch.proofs.tables.TableFills.{mixed-here, stage-low}
 use Rattle.galois.specs.Field.{alpha}
 use Rattle.receiver.proofs.tables.add_powers.Statement.{statement}
 use Rattle.receiver.proofs.tables.add_powers.Tie as tie

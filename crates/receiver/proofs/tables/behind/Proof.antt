@@ -1,7 +1,7 @@
 -- This function meets its contract. Assumes nothing.
 use native.Mathlib.Omega.{arith}
 use borrow.Author.Needs.{needs}
-use Rattle.bch.proofs.RootFills.{behind-small, behind-large}
+use Rattle.bch.proofs.tables.RootFills.{behind-small, behind-large}
 use Rattle.receiver.proofs.tables.behind.Statement.{statement}
 use Rattle.receiver.proofs.tables.behind.Tie as tie
 

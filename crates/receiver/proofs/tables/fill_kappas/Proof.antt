@@ -3,11 +3,11 @@ use Prim.Native.Nat.{ℕ, _+_, _-_, _*_, _%_, _^_, _≤_, _<_}
 use mathlib.Core.Path.{_≡_, refl, ap, sym, _∙_}
 use native.Mathlib.Omega.{arith}
 use borrow.Author.Needs.{needs}
-use Rattle.bch.proofs.TableLoops.{FieldFilled, Turn, TurnIn, turn-first, turn-in, turn-inside, turn-more, turn-out, turn-power, trios-step, next-entry}
+use Rattle.bch.proofs.tables.TableLoops.{FieldFilled, Turn, TurnIn, turn-first, turn-in, turn-inside, turn-more, turn-out, turn-power, trios-step, next-entry}
 use lib.ListN.{length, getD, length-set}
 use Rattle.galois.proofs.Primitive.{Primitive, primitive-5-10}
-use Rattle.bch.proofs.CodeTables.{TrioRoots, rootsIn}
-use Rattle.bch.proofs.RootFills.{behind}
+use Rattle.bch.proofs.tables.CodeTables.{TrioRoots, rootsIn}
+use Rattle.bch.proofs.tables.RootFills.{behind}
 use mathlib.Core.Logic.{_⊎_, inl, inr, ⊎-elim}
 use mathlib.Core.Path.{ap₂, subst}
 use lib.Bits.{bitXor}

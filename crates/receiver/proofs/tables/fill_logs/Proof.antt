@@ -3,7 +3,7 @@ use Prim.Native.Nat.{ℕ, _+_, _-_, _^_, _≤_, _<_}
 use mathlib.Core.Path.{_≡_, refl, ap, sym, _∙_}
 use native.Mathlib.Omega.{arith}
 use borrow.Author.Needs.{needs}
-use Rattle.bch.proofs.TableFills.{LogPart, logs-none, logs-more, logs-all}
+use Rattle.bch.proofs.tables.TableFills.{LogPart, logs-none, logs-more, logs-all}
 use lib.ListN.{length, length-set}
 use Rattle.galois.specs.Field.{alpha, double}
 use Rattle.galois.proofs.Primitive.{Primitive, primitive-5-10}

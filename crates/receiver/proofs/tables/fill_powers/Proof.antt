@@ -3,7 +3,7 @@ use Prim.Native.Nat.{_-_, _^_}
 use mathlib.Core.Path.{_≡_}
 use native.Mathlib.Omega.{arith}
 use borrow.Author.Needs.{needs}
-use Rattle.bch.proofs.TableFills.{stage, stage-one, part-as, adds-three, adds-five}
+use Rattle.bch.proofs.tables.TableFills.{stage, stage-one, part-as, adds-three, adds-five}
 use Rattle.galois.proofs.Primitive.{Primitive, primitive-5-10}
 use Rattle.galois.specs.Field.{alpha}
 use Rattle.receiver.proofs.tables.fill_powers.Statement.{statement}

@@ -5,9 +5,9 @@ use mathlib.Core.Path.{_≡_, refl, ap, ap₂, _∙_}
 use lib.ListN.{length, getD, length-set}
 use Rattle.galois.proofs.Primitive.{Primitive, primitive-5-10}
 use Rattle.galois.proofs.FieldTables.{even-size}
-use Rattle.bch.proofs.CodeTables.{PairRoots, rootsIn, reduced}
-use Rattle.bch.proofs.RootFills.{even-end}
-use Rattle.bch.proofs.TableLoops.{FieldFilled, filled-log-lt, pairs-step}
+use Rattle.bch.proofs.tables.CodeTables.{PairRoots, rootsIn, reduced}
+use Rattle.bch.proofs.tables.RootFills.{even-end}
+use Rattle.bch.proofs.tables.TableLoops.{FieldFilled, filled-log-lt, pairs-step}
 use borrow.Author.Needs.{needs}
 use Rattle.receiver.proofs.tables.fill_quadratics.Statement.{statement}
 use Rattle.receiver.proofs.tables.fill_quadratics.Tie as tie

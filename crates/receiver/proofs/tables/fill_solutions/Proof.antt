@@ -1,7 +1,7 @@
 -- This function meets its contract. Assumes nothing.
 use borrow.Author.Needs.{needs}
 use Rattle.galois.proofs.Primitive.{Primitive, primitive-5-10}
-use Rattle.bch.proofs.RootFills.{pairs-none, trios-none}
+use Rattle.bch.proofs.tables.RootFills.{pairs-none, trios-none}
 use Rattle.receiver.proofs.tables.fill_solutions.Statement.{statement}
 use Rattle.receiver.proofs.tables.fill_solutions.Tie as tie
 

@@ -1,7 +1,7 @@
 -- This function meets its contract. Assumes nothing.
 use native.Mathlib.Omega.{arith}
 use borrow.Author.Needs.{needs}
-use Rattle.bch.proofs.CodeTables.{folded-by, folded-lt}
+use Rattle.bch.proofs.tables.CodeTables.{folded-by, folded-lt}
 use Rattle.receiver.proofs.tables.fold.Statement.{statement}
 use Rattle.receiver.proofs.tables.fold.Tie as tie
 

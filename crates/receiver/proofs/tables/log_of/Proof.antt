@@ -5,8 +5,8 @@ use native.Mathlib.Decide.{ℕ-discrete}
 use mathlib.Core.Path.{_≡_, refl}
 use borrow.Author.Needs.{needs}
 use Rattle.galois.proofs.Primitive.{primitive-5-10}
-use Rattle.bch.proofs.CodeTables.{logIn}
-use Rattle.bch.proofs.TableLoops.{filled-log-lt}
+use Rattle.bch.proofs.tables.CodeTables.{logIn}
+use Rattle.bch.proofs.tables.TableLoops.{filled-log-lt}
 use Rattle.receiver.proofs.tables.log_of.Statement.{statement}
 use Rattle.receiver.proofs.tables.log_of.Tie as tie
 

@@ -1,6 +1,6 @@
 -- Above the period, one period less. Assumes nothing.
 use native.Mathlib.Omega.{arith}
-use Rattle.bch.proofs.CodeTables.{reduced-small, reduced-large}
+use Rattle.bch.proofs.tables.CodeTables.{reduced-small, reduced-large}
 use Rattle.receiver.proofs.tables.reduced.Statement.{statement}
 use Rattle.receiver.proofs.tables.reduced.Tie as tie
 

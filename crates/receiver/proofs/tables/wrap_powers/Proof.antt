@@ -3,8 +3,8 @@ use Prim.Native.Nat.{ℕ, _+_, _-_, _^_, _≤_}
 use mathlib.Core.Path.{_≡_, refl, ap}
 use native.Mathlib.Omega.{arith}
 use borrow.Author.Needs.{needs}
-use Rattle.bch.proofs.TableFills.{FieldPart, stage}
-use Rattle.bch.proofs.TableLoops.{powers-again, field-filled, roots-empty}
+use Rattle.bch.proofs.tables.TableFills.{FieldPart, stage}
+use Rattle.bch.proofs.tables.TableLoops.{powers-again, field-filled, roots-empty}
 use lib.ListN.{length, getD, length-set}
 use Rattle.galois.proofs.Primitive.{Primitive, primitive-5-10}
 use mathlib.Core.Path.{subst}

@@ -3,7 +3,7 @@ use Prim.Native.Nat.{ℕ, _+_, _-_, _*_, _^_, _≤_}
 use mathlib.Core.Path.{_≡_, refl, ap}
 use native.Mathlib.Omega.{arith}
 use borrow.Author.Needs.{needs}
-use Rattle.bch.proofs.TableLoops.{RootPart, roots-again, code-filled}
+use Rattle.bch.proofs.tables.TableLoops.{RootPart, roots-again, code-filled}
 use lib.ListN.{length, getD, length-set}
 use Rattle.galois.proofs.Primitive.{Primitive, primitive-5-10}
 use Rattle.receiver.proofs.tables.wrap_roots.Statement.{statement}

@@ -5,8 +5,8 @@ use mathlib.Core.Path.{_≡_, ap, _∙_}
 use mathlib.Core.List.{List}
 use lib.Bits.{bitXor}
 use Rattle.galois.proofs.FieldTables.{powersOf}
-use Rattle.bch.proofs.Placing.{lowerPart}
-use Rattle.chase.proofs.Doublings.{Doubled}
+use Rattle.bch.proofs.tables.Placing.{lowerPart}
+use Rattle.chase.proofs.test_words.Doublings.{Doubled}
 use Rattle.receiver.proofs.test_words.double.Statement.{statement}
 use Rattle.receiver.proofs.test_words.double.Tie as tie
 use borrow.Author.Needs.{needs}

@@ -5,7 +5,7 @@ use mathlib.Core.Path.{_≡_, refl, ap}
 use borrow.Author.Needs.{needs}
 use borrow.Author.Count.{below-none}
 use lib.ListN.{length, getD, length-set}
-use Rattle.chase.proofs.Doublings.{Holds, front-stays, back-more}
+use Rattle.chase.proofs.test_words.Doublings.{Holds, front-stays, back-more}
 use Rattle.receiver.proofs.test_words.double_add.Statement.{statement}
 use Rattle.receiver.proofs.test_words.double_add.Tie as tie
 

@@ -6,7 +6,7 @@ use borrow.Author.Needs.{needs}
 use borrow.Author.Count.{below-none}
 use lib.Bits.{bitXor}
 use lib.ListN.{length, getD, length-set}
-use Rattle.chase.proofs.Doublings.{Holds, front-stays, back-more}
+use Rattle.chase.proofs.test_words.Doublings.{Holds, front-stays, back-more}
 use Rattle.receiver.proofs.test_words.double_xor.Statement.{statement}
 use Rattle.receiver.proofs.test_words.double_xor.Tie as tie
 

@@ -5,11 +5,11 @@ use mathlib.Core.Path.{_≡_, sym}
 use lib.Bits.{bitXor}
 use lib.ListN.{length, drop}
 use Rattle.bch.specs.Code.{syndrome}
-use Rattle.bch.proofs.Settings.{primitive-of}
-use Rattle.bch.proofs.Entries.{below-at}
-use Rattle.bch.proofs.SyndromeSums.{sums, sums-acc, sums-end}
+use Rattle.bch.proofs.codes.Settings.{primitive-of}
+use Rattle.bch.proofs.codes.Entries.{below-at}
+use Rattle.bch.proofs.tables.SyndromeSums.{sums, sums-acc, sums-end}
 use Rattle.chase.specs.Soft.{hardBits}
-use Rattle.chase.proofs.Reach.{bits-hard, length-hard, hard-at}
+use Rattle.chase.proofs.test_words.Reach.{bits-hard, length-hard, hard-at}
 use Rattle.refusal.specs.Named.{codeOf}
 use borrow.Author.Needs.{needs}
 use Rattle.receiver.proofs.test_words.syndromes.Statement.{statement}

@@ -4,7 +4,7 @@ use native.Mathlib.Omega.{arith}
 use mathlib.Core.Path.{_≡_, refl, ap, ap₂, sym, _∙_}
 use lib.ListN.{take}
 use Rattle.chase.specs.Soft.{sum}
-use Rattle.chase.proofs.Allowances.{weighed, weighed-more}
+use Rattle.chase.proofs.ranking.Allowances.{weighed, weighed-more}
 use Prim.Native.Nat.{ℕ, _+_}
 use borrow.Author.Needs.{needs}
 use Rattle.receiver.proofs.weighing.allowance.Statement.{statement}

@@ -5,8 +5,8 @@ use mathlib.Core.Path.{_≡_, refl, sym, _∙_}
 use mathlib.Core.Logic.{⊎-elim}
 use lib.ListN.{length, getD, drop}
 use Rattle.bch.specs.Words.{isIn}
-use Rattle.chase.proofs.TestWords.{chosen, chosen-hit, chosen-miss, chosen-skip, chosen-end}
-use Rattle.chase.proofs.Ready.{placesOf, long-places, at-places}
+use Rattle.chase.proofs.test_words.TestWords.{chosen, chosen-hit, chosen-miss, chosen-skip, chosen-end}
+use Rattle.chase.proofs.search.Ready.{placesOf, long-places, at-places}
 use borrow.Author.Needs.{needs}
 use Rattle.receiver.proofs.weighing.chosen_at.Statement.{statement}
 use Rattle.receiver.proofs.weighing.chosen_at.Tie as tie

@@ -8,8 +8,8 @@ use lib.ListN.{getD}
 use Rattle.bch.specs.Words.{isIn}
 use Rattle.chase.specs.Soft.{reliabilities}
 use Rattle.chase.specs.Word.{weakest}
-use Rattle.chase.proofs.TestWords.{chosen, chosen-end, chosen-none}
-use Rattle.chase.proofs.Ready.{places-weak, long-weak, strong-unflipped}
+use Rattle.chase.proofs.test_words.TestWords.{chosen, chosen-end, chosen-none}
+use Rattle.chase.proofs.search.Ready.{places-weak, long-weak, strong-unflipped}
 use Rattle.receiver.proofs.weighing.flipped.Statement.{statement}
 use Rattle.receiver.proofs.weighing.flipped.Tie as tie
 use borrow.Author.Needs.{needs}

@@ -9,8 +9,8 @@ use lib.Seq.{take-take}
 use Rattle.bch.specs.Words.{flippedAt}
 use Rattle.chase.specs.Soft.{hardBits, reliabilities}
 use Rattle.chase.specs.Word.{test}
-use Rattle.chase.proofs.Weights.{Weighs, weighs-small}
-use Rattle.chase.proofs.Ready.{length-candidate, start-weighs, next-below, out-at, back-at}
+use Rattle.chase.proofs.weighing.Weights.{Weighs, weighs-small}
+use Rattle.chase.proofs.search.Ready.{length-candidate, start-weighs, next-below, out-at, back-at}
 use borrow.Author.Needs.{needs}
 use Rattle.receiver.proofs.weighing.weigh.Statement.{statement}
 use Rattle.receiver.proofs.weighing.weigh.Tie as tie

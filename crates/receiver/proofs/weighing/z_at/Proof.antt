@@ -1,7 +1,7 @@
 -- A reliability is read off its symbol. Assumes nothing.
 use native.Mathlib.Omega.{arith}
 use mathlib.Core.Path.{sym}
-use Rattle.chase.proofs.Keys.{reliability-at}
+use Rattle.chase.proofs.ranking.Keys.{reliability-at}
 use borrow.Author.Needs.{needs}
 use Rattle.receiver.proofs.weighing.z_at.Statement.{statement}
 use Rattle.receiver.proofs.weighing.z_at.Tie as tie

@@ -1,0 +1,89 @@
+-- The hard stage's answer from the positions found, whatever they were read from: lost where there are none, and otherwise the word
+-- flipped at them, one after the other. Assumes nothing.
+use Prim.Native.Nat.{ℕ, _+_, _-_, _≤_, _<_}
+use native.Mathlib.Omega.{arith}
+use mathlib.Core.Path.{_≡_, sym, ap, _∙_}
+use mathlib.Core.Bool.{Bool, true, false}
+use mathlib.Core.List.{List, []}
+use mathlib.Core.Option.{Option, none, some, Option·map, Option·getD}
+use lib.ListN.{length, getD, take, drop, set}
+use lib.Seq.{drop-length, length-take-le, getD-take}
+use Rattle.bch.specs.Words.{Below, flip, flippedAt}
+use Rattle.bch.specs.Code.{Code}
+use Rattle.bch.specs.Hard.{Repair, hardStage, hardFlips, hardWritten}
+use Rattle.bch.proofs.codes.Entries.{below-in}
+use Rattle.bch.proofs.decoding.Decoder.{isBelow, isBelow→, when-some}
+use Rattle.bch.proofs.decoding.KappaSums.{within}
+use Rattle.bch.proofs.tables.Placing.{positions, Placed, next}
+
+-- the hard stage flips the word at the positions found
+abbrev pub Repairs : Code → List ℕ → Bool → ℕ → List ℕ → Type 0
+Repairs c xs found count ps =
+    hardStage c xs ≡ Option·map (λ (P : List ℕ). record { word = flippedAt P xs; flips = length P }) (positions found count ps)
+
+-- ---- the answer
+
+module _ (c : Code) (xs : List ℕ) (found : Bool) (count : ℕ) (ps : List ℕ) (repairs : Repairs c xs found count ps) where
+  module _ (z : found ≡ false) where
+    lost : hardStage c xs ≡ none
+    unfolding positions
+    lost =
+        repairs
+        ∙ ap (λ (b : Bool). Option·map (λ (P : List ℕ). record { word = flippedAt P xs; flips = length P }) (positions b count ps)) z
+
+    pub lost-answer : (old : List ℕ) → (none ≡ hardFlips c xs) × (old ≡ hardWritten c xs old)
+    unfolding hardFlips hardWritten
+    lost-answer old = (
+      sym (ap (Option·map (λ (r : Repair). r .flips)) lost),
+      sym (ap (λ (o : Option Repair). Option·getD (Option·map (λ (r : Repair). r .word) o) old) lost),
+    )
+
+  module _ (z : found ≡ true) (room : count ≤ length ps) where
+    staged : hardStage c xs ≡ some (record { word = flippedAt (take count ps) xs; flips = count })
+    unfolding positions
+    staged =
+        repairs
+        ∙ ap (λ (b : Bool). Option·map (λ (P : List ℕ). record { word = flippedAt P xs; flips = length P }) (positions b count ps)) z
+        ∙ ap (λ (k : ℕ). some (record { word = flippedAt (take count ps) xs; flips = k })) (length-take-le count ps room)
+
+    pub found-answer : (old : List ℕ) → (some count ≡ hardFlips c xs) × (flippedAt (take count ps) xs ≡ hardWritten c xs old)
+    unfolding hardFlips hardWritten
+    found-answer old = (
+      sym (ap (Option·map (λ (r : Repair). r .flips)) staged),
+      sym (ap (λ (o : Option Repair). Option·getD (Option·map (λ (r : Repair). r .word) o) old) staged),
+    )
+
+-- ---- flipping one position after the other
+
+pub flip-more : (count i p : ℕ) (ps xs : List ℕ) {r : List ℕ} → count ≤ length ps → i < count → p ≡ getD ps i 0
+    → flippedAt (drop i (take count ps)) xs ≡ r → flippedAt (drop (i + 1) (take count ps)) (set xs p (1 - getD xs p 0)) ≡ r
+unfolding flippedAt flip
+flip-more count i p ps xs l h q old =
+    ap (λ (j : ℕ). flippedAt (drop (i + 1) (take count ps)) (set xs j (1 - getD xs j 0))) q
+    ∙ sym (ap (λ (P : List ℕ). flippedAt P xs) (next ps count i l h)) ∙ old
+
+pub flip-end : (count i : ℕ) (ps xs : List ℕ) {r : List ℕ} → count ≤ length ps → i ≡ count → flippedAt (drop i (take count ps)) xs ≡ r → xs ≡ r
+unfolding flippedAt
+flip-end count i ps xs l h old =
+    let e : drop i (take count ps) ≡ [] =
+    ap (λ (j : ℕ). drop j (take count ps)) (h ∙ sym (length-take-le count ps l)) ∙ drop-length (take count ps) in
+    sym (ap (λ (P : List ℕ). flippedAt P xs) e) ∙ old
+
+-- ---- positions below n
+
+-- what is within n is below n
+pub within-below : (n : ℕ) (Q P : List ℕ) → within n Q ≡ some P → Below n P
+unfolding within
+within-below n Q P e = let (h, q) = when-some (isBelow n Q) Q P e in rw q at (isBelow→ n Q h)
+
+-- what is found is placed, where all of it is below n
+pub placed-within : (n : ℕ) (found : Bool) (count : ℕ) (ps : List ℕ) → found ≡ true → count ≤ 3 → length ps ≡ 3
+    → ((P : List ℕ) → positions found count ps ≡ some P → Below n P) → Placed n count ps
+unfolding positions
+placed-within n found count ps z few long below =
+    let b : Below n (take count ps) = below (take count ps) (ap (λ (b : Bool). positions b count ps) z) in
+    record {
+      few = few;
+      long = long;
+      inside = λ k h. rw getD-take at (below-in n k (take count ps) b (omega (arith, length-take-le count ps (omega arith))));
+    }

@@ -1,0 +1,143 @@
+-- Test words: test word j is the hard bits flipped at the weak positions that j chooses. How it is had from the test word
+-- without its highest bit, how a loop writes it, and how a loop looks for a position among those chosen. Assumes nothing.
+use Prim.Native.Nat.{ℕ, zero, suc, _+_, _/_, _%_, _^_, _<_}
+use native.Mathlib.Omega.{arith}
+use native.Mathlib.Nat.{pow-succ'}
+use native.Mathlib.Numerals.{add-one}
+use mathlib.Core.Path.{_≡_, refl, ap, sym, _∙_}
+use mathlib.Core.Bool.{Bool, true, false, cond}
+use mathlib.Core.List.{List, [], _∷_, _++_}
+use borrow.Author.Tests.{eq-eqb, ne-eqb}
+use lib.Dec.{eqb}
+use lib.ListN.{length, getD, drop}
+use lib.Seq.{drop-cons, drop-length, ext-getD}
+use Rattle.bch.specs.Words.{flip, flippedAt, isIn, Distinct}
+use Rattle.bch.proofs.codes.Flipped.{flipped-append, is-in-cons}
+use Rattle.chase.specs.Soft.{hardBits, testWord}
+use Rattle.chase.proofs.test_words.Reach.{length-hard, hard-at}
+
+-- the weak positions that test word j flips
+unfoldable pub chosen : ℕ → List ℕ → List ℕ
+chosen j [] = []
+chosen j (w ∷ ws) = cond (eqb (j % 2) 1) (w ∷ chosen (j / 2) ws) (chosen (j / 2) ws)
+
+-- a test word is the word flipped at the chosen weak positions
+pub test-flipped : (j : ℕ) (ws xs : List ℕ) → testWord j ws xs ≡ flippedAt (chosen j ws) xs
+unfolding testWord flippedAt chosen
+test-flipped j [] xs = refl
+test-flipped j (w ∷ ws) xs = test-flipped (j / 2) ws (cond (eqb (j % 2) 1) (flip xs w) xs) ∙ go (eqb (j % 2) 1)
+  where
+    go : (b : Bool) → flippedAt (chosen (j / 2) ws) (cond b (flip xs w) xs) ≡ flippedAt (cond b (w ∷ chosen (j / 2) ws) (chosen (j / 2) ws)) xs
+    go true = refl
+    go false = refl
+
+-- none is chosen for 0
+pub chosen-none : (ws : List ℕ) → chosen 0 ws ≡ []
+unfolding chosen
+chosen-none [] = refl
+chosen-none (w ∷ ws) = chosen-none ws
+
+-- with a higher bit, one more is chosen
+pub chosen-high : (b j : ℕ) (ws : List ℕ) → b < length ws → j < 2 ^ b → chosen (j + 2 ^ b) ws ≡ chosen j ws ++ (getD ws b 0 ∷ [])
+unfolding chosen
+chosen-high b j [] h l = absurd (omega arith)
+chosen-high zero j (w ∷ ws) h l =
+    let e : j ≡ 0 = omega arith in
+    rw (e, chosen-none ws)
+chosen-high (suc b) j (w ∷ ws) h l =
+    let d : (j + 2 ^ suc b) / 2 ≡ j / 2 + 2 ^ b = omega (arith, pow-succ' 2 b) in
+    let m : (j + 2 ^ suc b) % 2 ≡ j % 2 = omega (arith, pow-succ' 2 b) in
+    rw (d, m) (go (eqb (j % 2) 1) (chosen-high b (j / 2) ws (omega arith) (omega (arith, pow-succ' 2 b))))
+  where
+    go : (c : Bool) → chosen (j / 2 + 2 ^ b) ws ≡ chosen (j / 2) ws ++ (getD ws b 0 ∷ [])
+        → cond c (w ∷ chosen (j / 2 + 2 ^ b) ws) (chosen (j / 2 + 2 ^ b) ws) ≡ cond c (w ∷ chosen (j / 2) ws) (chosen (j / 2) ws) ++ (getD ws b 0 ∷ [])
+    go true e = ap (λ (l : List ℕ). w ∷ l) e
+    go false e = e
+
+-- so a test word is had from that without its highest bit
+pub test-high : (b j : ℕ) (ws xs : List ℕ) → b < length ws → j < 2 ^ b → testWord (j + 2 ^ b) ws xs ≡ flip (testWord j ws xs) (getD ws b 0)
+unfolding flippedAt
+test-high b j ws xs h l =
+    test-flipped (j + 2 ^ b) ws xs
+    ∙ ap (λ (P : List ℕ). flippedAt P xs) (chosen-high b j ws h l)
+    ∙ flipped-append (chosen j ws) (getD ws b 0 ∷ []) xs
+    ∙ ap (λ (ys : List ℕ). flip ys (getD ws b 0)) (sym (test-flipped j ws xs))
+
+-- test word 0 is the word
+pub test-none : (ws xs : List ℕ) → testWord 0 ws xs ≡ xs
+unfolding testWord
+test-none [] xs = refl
+test-none (w ∷ ws) xs = test-none ws xs
+
+-- ---- distinct weak positions
+
+-- a position that is none of the weak ones is not chosen
+pub chosen-absent : (p j : ℕ) (ws : List ℕ) → isIn p ws ≡ false → isIn p (chosen j ws) ≡ false
+unfolding chosen isIn
+chosen-absent p j [] h = refl
+chosen-absent p j (w ∷ ws) h = go (eqb (j % 2) 1) (is-in-cons p w ws h) (chosen-absent p (j / 2) ws (is-in-cons p w ws h .1))
+  where
+    go : (b : Bool) → (p ≡ w → ⊥) × (isIn p ws ≡ false) → isIn p (chosen (j / 2) ws) ≡ false
+        → isIn p (cond b (w ∷ chosen (j / 2) ws) (chosen (j / 2) ws)) ≡ false
+    go true n i = rw (ne-eqb p w (n .0)) i
+    go false n i = i
+
+-- those that are chosen are distinct too
+pub chosen-distinct : (n j : ℕ) (ws : List ℕ) → Distinct n ws → Distinct n (chosen j ws)
+unfolding Distinct chosen
+chosen-distinct n j [] d = tt
+chosen-distinct n j (w ∷ ws) d = go (eqb (j % 2) 1) (chosen-distinct n (j / 2) ws (d .2))
+  where
+    go : (b : Bool) → Distinct n (chosen (j / 2) ws) → Distinct n (cond b (w ∷ chosen (j / 2) ws) (chosen (j / 2) ws))
+    go true i = (d .0, chosen-absent w (j / 2) ws (d .1), i)
+    go false i = i
+
+-- ---- looking for a position among those chosen
+
+module _ (x r k : ℕ) (ws : List ℕ) (more : k < length ws) where
+  -- it is the one that is looked at
+  pub chosen-hit : r % 2 ≡ 1 → getD ws k 0 ≡ x → isIn x (chosen r (drop k ws)) ≡ true
+  unfolding chosen isIn
+  chosen-hit o e = rw (drop-cons ws k 0 more, eq-eqb (r % 2) 1 o, eq-eqb x (getD ws k 0) (sym e))
+
+  -- it is another
+  pub chosen-miss : r % 2 ≡ 1 → (getD ws k 0 ≡ x → ⊥) → isIn x (chosen r (drop k ws)) ≡ isIn x (chosen (r / 2) (drop (k + 1) ws))
+  unfolding chosen isIn
+  chosen-miss o n = rw (add-one, drop-cons ws k 0 more, eq-eqb (r % 2) 1 o, ne-eqb x (getD ws k 0) (λ e. n (sym e)))
+
+  -- the one that is looked at is not flipped
+  pub chosen-skip : (r % 2 ≡ 1 → ⊥) → isIn x (chosen r (drop k ws)) ≡ isIn x (chosen (r / 2) (drop (k + 1) ws))
+  unfolding chosen
+  chosen-skip n = rw (add-one, drop-cons ws k 0 more, ne-eqb (r % 2) 1 n)
+
+-- none is left
+pub chosen-end : (x r k : ℕ) (ws : List ℕ) → k ≡ length ws → isIn x (chosen r (drop k ws)) ≡ false
+unfolding chosen isIn
+chosen-end x r k ws e = rw (e, drop-length)
+
+-- ---- writing a test word: the hard bits, and then one weak position after the other
+
+-- a list that holds the hard bits of symbols
+pub hard-filled : (ss ys : List ℕ) → length ys ≡ length ss → ((k : ℕ) → k < length ss → getD ys k 0 ≡ getD ss k 0 / 16) → ys ≡ hardBits ss
+hard-filled ss ys l h =
+    ext-getD 0 ys (hardBits ss) (l ∙ sym (length-hard ss)) (λ i w. h i (omega arith) ∙ sym (hard-at ss i))
+
+module _ (r k : ℕ) (ws ys : List ℕ) (more : k < length ws) where
+  -- the next weak position is flipped ..
+  pub weak-flip : r % 2 ≡ 1 → testWord r (drop k ws) ys ≡ testWord (r / 2) (drop (k + 1) ws) (flip ys (getD ws k 0))
+  unfolding testWord
+  weak-flip o =
+      rw (add-one, drop-cons ws k 0 more)
+      (ap (λ (b : Bool). testWord (r / 2) (drop (suc k) ws) (cond b (flip ys (getD ws k 0)) ys)) (eq-eqb (r % 2) 1 o))
+
+  -- .. or not
+  pub weak-keep : (r % 2 ≡ 1 → ⊥) → testWord r (drop k ws) ys ≡ testWord (r / 2) (drop (k + 1) ws) ys
+  unfolding testWord
+  weak-keep n =
+      rw (add-one, drop-cons ws k 0 more)
+      (ap (λ (b : Bool). testWord (r / 2) (drop (suc k) ws) (cond b (flip ys (getD ws k 0)) ys)) (ne-eqb (r % 2) 1 n))
+
+-- none is left
+pub weak-end : (r k : ℕ) (ws ys : List ℕ) → k ≡ length ws → testWord r (drop k ws) ys ≡ ys
+unfolding testWord
+weak-end r k ws ys e = rw (e, drop-length)

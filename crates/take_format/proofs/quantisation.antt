@@ -1,0 +1,3 @@
+-- Samples, and the ladder that makes symbols of them.
+pub mod SampleLaws
+pub mod SampleSteps
