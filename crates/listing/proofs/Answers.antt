@@ -47,7 +47,8 @@ pub found-line : (i : ℕ) (bits : List ℕ) {a b : Soft} {x : Answer} → a ≡
     ≡ softLine i a bits
 unfolding wordLine answerLine
 found-line i bits {a} {b} {x} e h f =
-    ap (λ (t : List ℕ). line (decimal i ∷ markName (x .mark) ∷ decimal (x .distance) ∷ t ∷ decimal (x .tries) ∷ messageText (x .mark) bits ∷ [])) (read-again (x .margin) f)
+    ap (λ (t : List ℕ). line (decimal i ∷ markName (x .mark) ∷ decimal (x .distance) ∷ t ∷ decimal (x .tries) ∷ messageText (x .mark) bits ∷ []))
+    (read-again (x .margin) f)
     ∙ sym (ap (λ (o : Refusal ⊎ Answer). answerLine i o bits) h) ∙ by-case i bits e
 
 -- ---- the checks

@@ -41,7 +41,8 @@ decimal-small x h = digits-small x x h
 pub decimal-more : (x : ℕ) → 10 ≤ x → decimal x ≡ decimal (x / 10) ++ ((48 + x % 10) ∷ [])
 unfolding decimal
 decimal-more zero h = absurd (omega arith)
-decimal-more (suc k) h = digits-more k (suc k) h ∙ ap (λ (t : List ℕ). t ++ ((48 + suc k % 10) ∷ [])) (digits-enough k (suc k / 10) (suc k / 10) (omega arith) (omega arith))
+decimal-more (suc k) h =
+    digits-more k (suc k) h ∙ ap (λ (t : List ℕ). t ++ ((48 + suc k % 10) ∷ [])) (digits-enough k (suc k / 10) (suc k / 10) (omega arith) (omega arith))
 
 -- which is one more
 pub decimal-longer : (x : ℕ) → 10 ≤ x → length (decimal x) ≡ length (decimal (x / 10)) + 1

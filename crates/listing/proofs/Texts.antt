@@ -39,7 +39,14 @@ pub then : {old mid now a b : List ℕ} {at next end : ℕ} → Put old at a mid
 then {old} {mid} {now} {a} {b} {at} {next} {end} p q =
     let front : length (take at old ++ a) ≡ next = omega (arith, length-append (take at old) a, length-take-le at old (omega (arith, p .room)), p .ends) in
     let rest = drop (at + length a) old in
-    let long : length mid ≡ length old = omega (arith, ap length (p .holds), length-append (take at old ++ a) rest, length-drop (at + length a) old, p .room, p .ends) in
+    let long : length mid ≡ length old = omega (
+      arith,
+      ap length (p .holds),
+      length-append (take at old ++ a) rest,
+      length-drop (at + length a) old,
+      p .room,
+      p .ends,
+    ) in
     let n : at + length a + length b ≡ at + length (a ++ b) = omega (arith, length-append a b) in
     let before : take next mid ≡ take at old ++ a = ap (take next) (p .holds) ∙ take-at (take at old ++ a) rest next front in
     let behind : drop (next + length b) mid ≡ drop (at + length (a ++ b)) old =
@@ -49,7 +56,9 @@ then {old} {mid} {now} {a} {b} {at} {next} {end} p q =
     record {
       room = omega (arith, p .room, q .room, p .ends);
       ends = omega (arith, p .ends, q .ends);
-      holds = q .holds ∙ ap₂ (λ (l r : List ℕ). l ++ b ++ r) before behind ∙ ap (λ (l : List ℕ). l ++ drop (at + length (a ++ b)) old) (append-assoc (take at old) a b);
+      holds =
+          q .holds ∙ ap₂ (λ (l r : List ℕ). l ++ b ++ r) before behind
+          ∙ ap (λ (l : List ℕ). l ++ drop (at + length (a ++ b)) old) (append-assoc (take at old) a b);
     }
 
 -- ---- bits

@@ -11,7 +11,8 @@ use Rattle.galois.proofs.Field2.{Field2, zero-⊗, divide, equal-of-sum, sum-of
 use Rattle.bch.proofs.algebra.Ring2.{nil, one, v0, v1, v2, v3, v4, v5, _⊞_, _⊠_, solve}
 use Rattle.bch.proofs.algebra.Peterson.{SQ, CUBE, DET2}
 use Rattle.bch.proofs.algebra.Peterson.{sq, cube, fifth, det2, delta, det3, locator1, locator2, locator3, reverse2, reverse3, apart}
-use Rattle.bch.proofs.algebra.Unique.{power1, power3, power5, Errors, apart-of, roots-of, det2-of, det3-of, reverse2-of, reverse3-of, member-of-root, root-of-member, few}
+use Rattle.bch.proofs.algebra.Unique.{power1, power3, power5, Errors, apart-of, roots-of, det2-of, det3-of, reverse2-of, reverse3-of}
+use Rattle.bch.proofs.algebra.Unique.{member-of-root, root-of-member, few}
 
 module _ {F : Type 0} {𝟘 𝟙 : F} {_⊕_ _⊗_ : F → F → F} (K : Field2 𝟘 𝟙 _⊕_ _⊗_) where
   infixl 65 _⊕_

@@ -14,7 +14,8 @@ use Rattle.bch.proofs.codes.Settings.{Lawful, primitive-of}
 use Rattle.bch.proofs.codes.SyndromeLaws.{passes→}
 use Rattle.bch.proofs.algebra.Unique.{distance}
 use Rattle.bch.proofs.codes.Counting.{flips-zero}
-use Rattle.bch.proofs.codes.Positions.{differences, length-differences, rising-differences, sumAt, sum-differences, locators, length-locators, errors-locators, power1-locators, power3-locators, power5-locators}
+use Rattle.bch.proofs.codes.Positions.{differences, length-differences, rising-differences, sumAt, sum-differences, locators, length-locators}
+use Rattle.bch.proofs.codes.Positions.{errors-locators, power1-locators, power3-locators, power5-locators}
 
 module _ (c : Code) (isCode : Lawful c) where
   prim : Primitive (c .m)

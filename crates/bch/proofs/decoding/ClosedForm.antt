@@ -49,12 +49,14 @@ module _ (c : Code) (isCode : Lawful c) (quad first second : ℕ → ℕ) (table
 
   -- the hard stage's codeword is the word flipped at the positions found, ..
   pub repaired-located : repaired c xs
-      ≡ Option·map (λ (P : List ℕ). flippedAt P xs) (located (c .m) (c .t) (c .n) quad first second (syndrome (c .m) 1 xs) (syndrome (c .m) 3 xs) (syndrome (c .m) 5 xs))
+      ≡ Option·map (λ (P : List ℕ). flippedAt P xs) (located (c .m) (c .t) (c .n) quad first second (syndrome (c .m) 1 xs) (syndrome (c .m) 3 xs)
+      (syndrome (c .m) 5 xs))
   unfolding located
   repaired-located = repaired-tried c isCode xs long bits E found
 
   -- .. which are distinct, ..
-  pub located-distinct : (P : List ℕ) → located (c .m) (c .t) (c .n) quad first second (syndrome (c .m) 1 xs) (syndrome (c .m) 3 xs) (syndrome (c .m) 5 xs) ≡ some P
+  pub located-distinct : (P : List ℕ) → located (c .m) (c .t) (c .n) quad first second (syndrome (c .m) 1 xs) (syndrome (c .m) 3 xs)
+      (syndrome (c .m) 5 xs) ≡ some P
       → Distinct (c .n) P
   unfolding located
   located-distinct P e = tried-distinct c isCode xs long bits E found P e

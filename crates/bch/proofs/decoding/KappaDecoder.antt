@@ -25,7 +25,8 @@ use Rattle.bch.proofs.algebra.Peterson.{sq, cube, fifth, det2, det3}
 use Rattle.bch.proofs.algebra.Unique.{Errors, power1, power3, power5, not-zero}
 use Rattle.bch.proofs.algebra.Roots.{fifth-not-zero, det2-zero, det3-zero, two-members}
 use Rattle.bch.proofs.codes.Positions.{cube-power, fifth-power}
-use Rattle.bch.proofs.algebra.Kappa.{slope, slope-is, moved, flat-root, AtKappa, scale-not-zero, kappa-not-zero, kappa-root, kappa-nonzero, kappa-nonunit, member-moved, three-are, three-zero}
+use Rattle.bch.proofs.algebra.Kappa.{slope, slope-is, moved, flat-root, AtKappa, scale-not-zero, kappa-not-zero, kappa-root, kappa-nonzero}
+use Rattle.bch.proofs.algebra.Kappa.{kappa-nonunit, member-moved, three-are, three-zero}
 use Rattle.bch.proofs.decoding.Decoder.{Covers}
 use Rattle.bch.proofs.decoding.Elements.{ifZero, zero-is, zero-not, either-short, at-most, quotient, not-nil, quotient-is, divided, quotient-only, More}
 

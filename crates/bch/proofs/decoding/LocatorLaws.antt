@@ -19,7 +19,8 @@ use Rattle.bch.proofs.codes.Settings.{Lawful, primitive-of}
 use Rattle.bch.proofs.codes.Trials.{mapping}
 use Rattle.bch.proofs.algebra.Unique.{power1, power3, power5}
 use Rattle.bch.proofs.algebra.Roots.{locator1-roots, locator2-roots, locator3-roots}
-use Rattle.bch.proofs.codes.Positions.{rising-member, differences, locators, length-locators, locator-member, power1-locators, power3-locators, power5-locators}
+use Rattle.bch.proofs.codes.Positions.{rising-member, differences, locators, length-locators, locator-member, power1-locators, power3-locators}
+use Rattle.bch.proofs.codes.Positions.{power5-locators}
 use Rattle.bch.proofs.decoding.Located.{Located, near-located}
 
 -- the locator is not 0 as a whole: for t = 2 S1 is not 0, and for t = 3 D2 is not

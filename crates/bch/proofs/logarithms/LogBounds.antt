@@ -106,6 +106,7 @@ module _ (m t : ℕ) (ts : List ℕ) (f : CodeTables m t ts) where
     pub rest-two : t ≡ 2 → (r ≡ 0 → ⊥) → r / 1024 % 1024 ≡ 0 → ⊥
     rest-two e n z =
         let l2 = element-lt m (d2 m a b) (f .most) d-lt in
-        let q : r ≡ packed 0 (d2 m a b) 0 = rest-by ∙ ap (λ (x : ℕ). lowerPart x (packed 0 (d2 m a b) (e5 m a c))) e ∙ lower-two 0 (d2 m a b) (e5 m a c) (omega arith) l2 in
+        let q : r ≡ packed 0 (d2 m a b) 0 = rest-by ∙ ap (λ (x : ℕ). lowerPart x (packed 0 (d2 m a b) (e5 m a c))) e
+        ∙ lower-two 0 (d2 m a b) (e5 m a c) (omega arith) l2 in
         let k : d2 m a b ≡ 0 = sym (packed-second 0 (d2 m a b) 0 (omega arith) l2) ∙ ap (λ (x : ℕ). x / 1024 % 1024) (sym q) ∙ z in
         n (q ∙ ap (λ (x : ℕ). packed 0 x 0) k)

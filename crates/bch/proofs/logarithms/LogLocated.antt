@@ -26,7 +26,8 @@ use Rattle.bch.proofs.tables.Placing.{lowerPart}
 use Rattle.bch.proofs.decoding.KappaSums.{within, attempted-within}
 use Rattle.bch.proofs.tables.CodeTables.{CodeTables, logIn, powersIn, rootsIn, primitive-code, lower-one, lower-two, lower-three, lower-first, rest-is}
 use Rattle.bch.proofs.logarithms.LogRoots.{quadIn, firstIn, secondIn}
-use Rattle.bch.proofs.logarithms.LogLocator.{pairIn, cubesIn, kappaIn, moreIn, locateIn, attempted-lost, single-summed, single-flat, single-zero, single-some}
+use Rattle.bch.proofs.logarithms.LogLocator.{pairIn, cubesIn, kappaIn, moreIn, locateIn, attempted-lost, single-summed, single-flat}
+use Rattle.bch.proofs.logarithms.LogLocator.{single-zero, single-some}
 use Rattle.bch.proofs.logarithms.LogPairs.{pair-located}
 use Rattle.bch.proofs.logarithms.LogTrios.{cubes-located, kappa-located}
 
@@ -83,7 +84,8 @@ module _ (m t : ℕ) (ts : List ℕ) (f : CodeTables m t ts) (n s s1 s3 s5 : ℕ
   rest = rest-is m t ts f s s1 s3 s5 h1 h3 h5 is
 
   -- by their list of elements
-  by-list : (E : List ℕ) {o : Option (List ℕ)} → o ≡ attempted m t n s1 s3 s5 E → E ≡ elements m quad (kappas m first second) t s1 s3 s5 → o ≡ locatedIn m t n ts s1 s3 s5
+  by-list : (E : List ℕ) {o : Option (List ℕ)} → o ≡ attempted m t n s1 s3 s5 E → E ≡ elements m quad (kappas m first second) t s1 s3 s5
+      → o ≡ locatedIn m t n ts s1 s3 s5
   by-list E h q = located-from m t n quad first second s1 s3 s5 s1 s3 s5 E h q refl refl refl
 
   flat-list : (2 ≤ t → d ≡ 0) → single s1 ≡ elements m quad (kappas m first second) t s1 s3 s5
@@ -105,14 +107,16 @@ module _ (m t : ℕ) (ts : List ℕ) (f : CodeTables m t ts) (n s s1 s3 s5 : ℕ
   unfolding within when isBelow
   none-is z =
       let z1 : s1 ≡ 0 = sym first-part ∙ ap (λ (x : ℕ). x % 1024) z in
-      let p : powersIn m ts (logIn ts (s % 1024)) ≡ 0 = ap (λ (x : ℕ). powersIn m ts (logIn ts x)) (first-part ∙ z1) ∙ ap (powersIn m ts) (f .log-none) ∙ f .power-none in
+      let p : powersIn m ts (logIn ts (s % 1024)) ≡ 0 = ap (λ (x : ℕ). powersIn m ts (logIn ts x)) (first-part ∙ z1)
+      ∙ ap (powersIn m ts) (f .log-none) ∙ f .power-none in
       let zr : r ≡ 0 = ap₂ bitXor z p in
       ap (λ (E : List ℕ). within n (map (log m) E)) (sym (single-zero m g t s1 s3 s5 h1 z1)) ∙ flat (flat-if zr)
 
   one-is : s ≢ 0 → r ≡ 0 → within n (logIn ts (s % 1024) ∷ []) ≡ locatedIn m t n ts s1 s3 s5
   one-is k zr =
       let n1 : s1 ≢ 0 = λ z1.
-      let p : powersIn m ts (logIn ts (s % 1024)) ≡ 0 = ap (λ (x : ℕ). powersIn m ts (logIn ts x)) (first-part ∙ z1) ∙ ap (powersIn m ts) (f .log-none) ∙ f .power-none in
+      let p : powersIn m ts (logIn ts (s % 1024)) ≡ 0 = ap (λ (x : ℕ). powersIn m ts (logIn ts x)) (first-part ∙ z1)
+      ∙ ap (powersIn m ts) (f .log-none) ∙ f .power-none in
       k (sym (xor-zero-r s) ∙ ap (bitXor s) (sym p) ∙ zr) in
       ap (λ (x : ℕ). within n (x ∷ [])) (ap (logIn ts) first-part ∙ f .logs s1 n1 h1)
       ∙ ap (λ (E : List ℕ). within n (map (log m) E)) (sym (single-some m g t s1 s3 s5 h1 n1)) ∙ flat (flat-if zr)

@@ -30,7 +30,8 @@ use Rattle.bch.proofs.tables.RootTables.{quadratic}
 use Rattle.bch.proofs.decoding.KappaDecoder.{nonzero, cubed-log}
 use Rattle.bch.proofs.decoding.ElementLists.{pairBy, pair-two}
 use Rattle.bch.proofs.decoding.KappaSums.{within, attempted-within, sum-logs}
-use Rattle.bch.proofs.tables.CodeTables.{CodeTables, PairRoot, logIn, rootsIn, folded, folded-lt, folded-power, reduced, log-reduced, primitive-code, log-below, roots-at}
+use Rattle.bch.proofs.tables.CodeTables.{CodeTables, PairRoot, logIn, rootsIn, folded, folded-lt, folded-power, reduced, log-reduced}
+use Rattle.bch.proofs.tables.CodeTables.{primitive-code, log-below, roots-at}
 use Rattle.bch.proofs.logarithms.LogRoots.{quadOf, quadIn, quad-none, quad-some, quad-at}
 use Rattle.bch.proofs.logarithms.LogLocator.{pairIn, attempted-lost, nonzero-two}
 

@@ -95,18 +95,21 @@ module _ (m n : ℕ) (ts : List ℕ) (l1 d ld p e r : ℕ) (hp : p ≡ 2 ^ m - 1
   unfolding pairIn
   pair-lost z q = q ∙ sym (zero-is _ lost _ (sym is-r ∙ z))
 
-  pub pair-found : {o : Option (List ℕ)} → r ≢ 0 → (x y : ℕ) → x ≡ reduced p (l1 + r % 1024) → y ≡ reduced p (l1 + r / 1024) → o ≡ within n (x ∷ y ∷ []) → o ≡ pairIn m n ts l1 d
+  pub pair-found : {o : Option (List ℕ)} → r ≢ 0 → (x y : ℕ) → x ≡ reduced p (l1 + r % 1024) → y ≡ reduced p (l1 + r / 1024)
+      → o ≡ within n (x ∷ y ∷ []) → o ≡ pairIn m n ts l1 d
   unfolding pairIn
   pair-found k x y hx hy q =
       q
-      ∙ ap₂ (λ (u v : ℕ). within n (u ∷ v ∷ [])) (hx ∙ ap₂ (λ (a b : ℕ). reduced a (l1 + b % 1024)) hp is-r) (hy ∙ ap₂ (λ (a b : ℕ). reduced a (l1 + b / 1024)) hp is-r)
+      ∙ ap₂ (λ (u v : ℕ). within n (u ∷ v ∷ [])) (hx ∙ ap₂ (λ (a b : ℕ). reduced a (l1 + b % 1024)) hp is-r)
+      (hy ∙ ap₂ (λ (a b : ℕ). reduced a (l1 + b / 1024)) hp is-r)
       ∙ sym (zero-not _ lost _ (λ z. k (is-r ∙ z)))
 
 -- ---- two roots and their sum
 
 module _ (n : ℕ) (ts : List ℕ) (s1 y1 y2 x1 x2 x3 p1 p2 p3 : ℕ) (h1 : x1 ≡ bitXor s1 y1) (h2 : x2 ≡ bitXor s1 y2) (h3 : x3 ≡ bitXor x1 y2)
     (q1 : p1 ≡ logIn ts x1) (q2 : p2 ≡ logIn ts x2) (q3 : p3 ≡ logIn ts x3) where
-  trio-as : ifZero x1 (within n (p2 ∷ p3 ∷ [])) (ifZero x2 (within n (p1 ∷ p3 ∷ [])) (ifZero x3 (within n (p1 ∷ p2 ∷ [])) (within n (p1 ∷ p2 ∷ p3 ∷ [])))) ≡ trioIn n ts s1 y1 y2
+  trio-as : ifZero x1 (within n (p2 ∷ p3 ∷ [])) (ifZero x2 (within n (p1 ∷ p3 ∷ []))
+      (ifZero x3 (within n (p1 ∷ p2 ∷ [])) (within n (p1 ∷ p2 ∷ p3 ∷ [])))) ≡ trioIn n ts s1 y1 y2
   unfolding trioIn
   trio-as =
       let F : ℕ → ℕ → ℕ → ℕ → ℕ → ℕ → Option (List ℕ) = λ a b c u v w.
@@ -159,7 +162,8 @@ module _ (m n : ℕ) (ts : List ℕ) (s1 d e p ld le x r : ℕ) (hp : p ≡ 2 ^ 
   unfolding kappaIn
   kappa-as =
       let k : r ≡ rootsIn m ts (folded m (3 * logIn ts e + 5 * (2 ^ m - 1 - logIn ts d))) =
-      hr ∙ ap (rootsIn m ts) (hx ∙ ap₂ (λ (a b : ℕ). folded m (3 * a + 5 * (b - ld))) he hp ∙ ap (λ (a : ℕ). folded m (3 * logIn ts e + 5 * (2 ^ m - 1 - a))) hd) in
+      hr ∙ ap (rootsIn m ts) (hx ∙ ap₂ (λ (a b : ℕ). folded m (3 * a + 5 * (b - ld))) he hp
+      ∙ ap (λ (a : ℕ). folded m (3 * logIn ts e + 5 * (2 ^ m - 1 - a))) hd) in
       ap (try (2 * ld + (p - le))) k
       ∙ ap₂ (λ (a b : ℕ). try (2 * a + (b - le)) (rootsIn m ts (folded m (3 * logIn ts e + 5 * (2 ^ m - 1 - logIn ts d))))) hd hp
       ∙ ap (λ (a : ℕ). try (2 * logIn ts d + (2 ^ m - 1 - a)) (rootsIn m ts (folded m (3 * logIn ts e + 5 * (2 ^ m - 1 - logIn ts d))))) he
@@ -168,7 +172,8 @@ module _ (m n : ℕ) (ts : List ℕ) (s1 d e p ld le x r : ℕ) (hp : p ≡ 2 ^ 
   kappa-lost h q =
       q
       ∙ sym (ap (λ (b : Bool). cond b lost
-      (trioIn n ts s1 (powersIn m ts (folded m (2 * ld + (p - le) + r % 1024)) % 1024) (powersIn m ts (folded m (2 * ld + (p - le) + r / 1024)) % 1024))) (lt-ltb r 1024 h))
+      (trioIn n ts s1 (powersIn m ts (folded m (2 * ld + (p - le) + r % 1024)) % 1024)
+      (powersIn m ts (folded m (2 * ld + (p - le) + r / 1024)) % 1024))) (lt-ltb r 1024 h))
       ∙ kappa-as
 
   pub kappa-found : {o : Option (List ℕ)} → 1024 ≤ r → (s y z u v : ℕ) → s ≡ 2 * ld + (p - le) → y ≡ folded m (s + r % 1024) → z ≡ folded m (s + r / 1024)
@@ -178,7 +183,8 @@ module _ (m n : ℕ) (ts : List ℕ) (s1 d e p ld le x r : ℕ) (hp : p ≡ 2 ^ 
       ∙ ap₂ (trioIn n ts s1) (hu ∙ ap (λ (a : ℕ). powersIn m ts a % 1024) (hy ∙ ap (λ (a : ℕ). folded m (a + r % 1024)) hs))
       (hv ∙ ap (λ (a : ℕ). powersIn m ts a % 1024) (hz ∙ ap (λ (a : ℕ). folded m (a + r / 1024)) hs))
       ∙ sym (ap (λ (b : Bool). cond b lost
-      (trioIn n ts s1 (powersIn m ts (folded m (2 * ld + (p - le) + r % 1024)) % 1024) (powersIn m ts (folded m (2 * ld + (p - le) + r / 1024)) % 1024))) (le-ltb r 1024 h))
+      (trioIn n ts s1 (powersIn m ts (folded m (2 * ld + (p - le) + r % 1024)) % 1024)
+      (powersIn m ts (folded m (2 * ld + (p - le) + r / 1024)) % 1024))) (le-ltb r 1024 h))
       ∙ kappa-as
 
 -- ---- all

@@ -25,10 +25,12 @@ use Rattle.bch.proofs.codes.Positions.{sumAt}
 use Rattle.bch.proofs.decoding.Decoder.{attempted}
 use Rattle.bch.proofs.algebra.Kappa.{slope, moved}
 use Rattle.bch.proofs.decoding.Elements.{ifZero, zero-is, zero-not, not-nil, quotient}
-use Rattle.bch.proofs.decoding.KappaDecoder.{Solves, root-by-kappa, scaled-apart, third-root, next-root, thirds-apart, kappa, scale, fifthed, nonzero, trio, byCubes, byKappa, cubed-log, fifthed-log}
+use Rattle.bch.proofs.decoding.KappaDecoder.{Solves, root-by-kappa, scaled-apart, third-root, next-root, thirds-apart, kappa, scale, fifthed}
+use Rattle.bch.proofs.decoding.KappaDecoder.{nonzero, trio, byCubes, byKappa, cubed-log, fifthed-log}
 use Rattle.bch.proofs.decoding.ElementLists.{cubes-none, cubes-odd, cubes-three, kappa-none, kappa-three}
 use Rattle.bch.proofs.decoding.KappaSums.{within, attempted-within, trio-sums}
-use Rattle.bch.proofs.tables.CodeTables.{CodeTables, TrioRoot, logIn, powersIn, rootsIn, folded, folded-lt, folded-power, primitive-code, log-below, power-at, roots-at}
+use Rattle.bch.proofs.tables.CodeTables.{CodeTables, TrioRoot, logIn, powersIn, rootsIn, folded, folded-lt, folded-power, primitive-code}
+use Rattle.bch.proofs.tables.CodeTables.{log-below, power-at, roots-at}
 use Rattle.bch.proofs.logarithms.LogRoots.{trio-solves, firstOf, firstIn, secondOf, secondIn, first-some, second-none, second-some, first-at, second-at}
 use Rattle.bch.proofs.logarithms.LogLocator.{trioIn, cubesIn, kappaIn, attempted-lost, nonzero-skip, nonzero-take, nonzero-two, nothing}
 
@@ -179,7 +181,8 @@ module _ (m : ℕ) (ts : List ℕ) (f : CodeTables m 3 ts) (n : ℕ) where
             ∙ trio-located y z (thirds-apart m g D E nd ze k o′) (alpha-nonzero m g (log m d / 3)) (alpha-nonzero m g (log m d / 3 + p / 3))
             (third-root m g D E nd ze k o′) (next-root m g D E nd ze k o′)
             ∙ ap (attempted m 3 n (s1 .0) (s3 .0) (s5 .0))
-            (ap₂ (trio (s1 .0)) (sym atY) (sym atZ) ∙ cubes-three m (s1 .0) d p l refl k is-log Y Z o (power-at m 3 ts f (l / 3) lY) (power-at m 3 ts f (l / 3 + p / 3) lZ))
+            (ap₂ (trio (s1 .0)) (sym atY) (sym atZ) ∙ cubes-three m (s1 .0) d p l refl k is-log Y Z o (power-at m 3 ts f (l / 3) lY)
+            (power-at m 3 ts f (l / 3 + p / 3) lZ))
           where
             o′ : log m d % 3 ≡ 0
             o′ = ap (λ (u : ℕ). u % 3) (sym is-log) ∙ o
@@ -321,7 +324,8 @@ module _ (m : ℕ) (ts : List ℕ) (f : CodeTables m 3 ts) (n : ℕ) where
             (kappa-none m (firstIn m R) (secondIn m R) (s1 .0) d e k refl 0 (sym (second-k ∙ second-none m r l)) refl)
         go (inr l) =
             ap (λ (c : Bool). cond c lost (try Y Z)) (le-ltb r 1024 l) ∙ ap₂ try at-Y at-Z
-            ∙ trio-located y z (scaled-apart m g D E nd ne u v apart) (λ o. alpha-nonzero m g (a + s) (sym y-is ∙ o)) (λ o. alpha-nonzero m g (b + s) (sym z-is ∙ o))
+            ∙ trio-located y z (scaled-apart m g D E nd ne u v apart) (λ o. alpha-nonzero m g (a + s) (sym y-is ∙ o))
+            (λ o. alpha-nonzero m g (b + s) (sym z-is ∙ o))
             (root-by-kappa m g D E nd ne u .1 solves-a) (root-by-kappa m g D E nd ne v .1 solves-b)
             ∙ ap (attempted m 3 n (s1 .0) (s3 .0) (s5 .0))
             (kappa-three m (firstIn m R) (secondIn m R) (s1 .0) d e k refl (alpha m b) (alpha m a) (scale m d e) (y .0) (z .0)

@@ -178,7 +178,8 @@ behind-power m g e d hd = go (lt-or-le e d)
 
 module _ (m : ℕ) (g : Primitive m) where
   -- where the κ of α^l stands: at three l less the logarithm of α^l + 1
-  pub kappa-at : (l e : ℕ) → 1 ≤ l → l < 2 ^ m - 1 → e < 2 ^ m - 1 → alpha m e ≡ alpha m (3 * l) → kappaLog m l ≡ behind (2 ^ m - 1) e (log m (bitXor (alpha m l) 1))
+  pub kappa-at : (l e : ℕ) → 1 ≤ l → l < 2 ^ m - 1 → e < 2 ^ m - 1 → alpha m e ≡ alpha m (3 * l)
+      → kappaLog m l ≡ behind (2 ^ m - 1) e (log m (bitXor (alpha m l) 1))
   unfolding alpha
   kappa-at l e least h he q =
       let w = alpha m l in

@@ -202,7 +202,8 @@ module _ (m : ℕ) (g : Primitive m) (most : m ≤ 10) (k : ℕ) where
   pub stage-one : alpha m k ≡ stage m 1 k
   stage-one =
       let e : packed (alpha m k) 0 0 ≡ alpha m k = omega arith in
-      sym e ∙ ap (λ (x : ℕ). packed (alpha m x) 0 0) (sym (one-mul k)) ∙ sym (lower-one (alpha m (1 * k)) (alpha m (3 * k)) (alpha m (5 * k)) (small (1 * k)) (small (3 * k)))
+      sym e ∙ ap (λ (x : ℕ). packed (alpha m x) 0 0) (sym (one-mul k))
+      ∙ sym (lower-one (alpha m (1 * k)) (alpha m (3 * k)) (alpha m (5 * k)) (small (1 * k)) (small (3 * k)))
 
   pub stage-two : stage m 1 k + 1024 * alpha m (3 * k) ≡ stage m 2 k
   stage-two =

@@ -101,7 +101,8 @@ module _ (m : ℕ) (g : Primitive m) where
       ∙ ap (λ (z : ℕ). lowerPart t (packed (alpha m (1 * (2 ^ m - 1 + i))) (alpha m (3 * (2 ^ m - 1 + i))) z)) (power-again 5 i)
 
   -- one entry more
-  pub powers-again : (t i at v : ℕ) (ts : List ℕ) → i < 8 → at ≡ 2 ^ m + (2 ^ m - 1) + i → v ≡ getD ts (2 ^ m + i) 0 → FieldPart m (stage m t) (2 ^ m - 1 + i) ts
+  pub powers-again : (t i at v : ℕ) (ts : List ℕ) → i < 8 → at ≡ 2 ^ m + (2 ^ m - 1) + i → v ≡ getD ts (2 ^ m + i) 0
+      → FieldPart m (stage m t) (2 ^ m - 1 + i) ts
       → FieldPart m (stage m t) (2 ^ m - 1 + (i + 1)) (set ts at v)
   powers-again t i at v ts h ea ev f =
       let k : 2 ^ m + (2 ^ m - 1) + i ≡ 2 ^ m + (2 ^ m - 1 + i) = omega arith in
@@ -181,7 +182,10 @@ module _ (m : ℕ) (g : Primitive m) (size : 2 ^ m ≤ 1024) (t : ℕ) (ts : Lis
       → at ≡ 2 * 2 ^ m + 8 + e → v ≡ a + 1024 * b → PairRoots m w (rootsIn m ts)
       → FieldFilled m t (set ts at v) × PairRoots m (w + 2) (rootsIn m (set ts at v))
   pairs-step w a b e at v even least h ea eb ee et ev old =
-      rw et (field-keeps m t (2 * 2 ^ m + 8 + e) v ts (omega arith) f, subst (λ (x : ℕ). PairRoots m (w + 2) (rootsIn m (set ts (2 * 2 ^ m + 8 + x) v))) (sym is-e) new)
+      rw et (
+        field-keeps m t (2 * 2 ^ m + 8 + e) v ts (omega arith) f,
+        subst (λ (x : ℕ). PairRoots m (w + 2) (rootsIn m (set ts (2 * 2 ^ m + 8 + x) v))) (sym is-e) new,
+      )
     where
       A : ℕ
       A = log m w
@@ -233,7 +237,10 @@ module _ (m : ℕ) (g : Primitive m) (size : 2 ^ m ≤ 1024) (t : ℕ) (ts : Lis
       → FieldFilled m t (set ts at v) × TrioRoots m (l + 1) (rootsIn m (set ts at v))
   unfolding alpha
   trios-step l e x b at v tl tu most least h he q ex eb et ev old =
-      rw et (field-keeps m t (2 * 2 ^ m + 8 + b) v ts (omega arith) f, subst (λ (i : ℕ). TrioRoots m (l + 1) (rootsIn m (set ts (2 * 2 ^ m + 8 + i) v))) (sym is-b) new)
+      rw et (
+        field-keeps m t (2 * 2 ^ m + 8 + b) v ts (omega arith) f,
+        subst (λ (i : ℕ). TrioRoots m (l + 1) (rootsIn m (set ts (2 * 2 ^ m + 8 + i) v))) (sym is-b) new,
+      )
     where
       y : ℕ
       y = bitXor (alpha m l) 1
@@ -282,7 +289,8 @@ pub roots-once : (m t : ℕ) (ts : List ℕ) → FieldFilled m t ts → (t ≡ 2
 roots-once m t ts f p q = record { field = f; pairs = p; trios = q; again = λ k h. absurd (omega arith) }
 
 -- one entry more
-pub roots-again : (m : ℕ) → Primitive m → 32 ≤ 2 ^ m → (t i at v : ℕ) (ts : List ℕ) → i < 8 → at ≡ 2 * 2 ^ m + 8 + (2 ^ m - 1) + i → v ≡ getD ts (2 * 2 ^ m + 8 + i) 0
+pub roots-again : (m : ℕ) → Primitive m → 32 ≤ 2 ^ m → (t i at v : ℕ) (ts : List ℕ) → i < 8 → at ≡ 2 * 2 ^ m + 8 + (2 ^ m - 1) + i
+    → v ≡ getD ts (2 * 2 ^ m + 8 + i) 0
     → RootPart m t i ts → RootPart m t (i + 1) (set ts at v)
 roots-again m g size t i at v ts h ea ev f =
     subst (λ (j : ℕ). RootPart m t (i + 1) (set ts j v)) (sym (ea ∙ flat))

@@ -15,8 +15,10 @@ use Rattle.galois.proofs.FieldTables.{zeros, size-least, size-most, even-size}
 use Rattle.galois.proofs.Logs.{alpha-mod}
 use Rattle.bch.proofs.tables.CodeTables.{CodeTables, PairRoots, TrioRoots, logIn, powersIn, rootsIn, reduced}
 use Rattle.bch.proofs.tables.RootFills.{pairs-none, trios-none, behind}
-use Rattle.bch.proofs.tables.TableFills.{LogPart, FieldPart, logs-none, logs-more, logs-all, part-as, mixed, mixed-none, mixed-more, mixed-all, stage, stage-one, stage-two, stage-three, stage-low}
-use Rattle.bch.proofs.tables.TableLoops.{FieldFilled, RootPart, powers-again, field-filled, roots-empty, pairs-step, trios-step, roots-once, roots-again, code-filled}
+use Rattle.bch.proofs.tables.TableFills.{LogPart, FieldPart, logs-none, logs-more, logs-all, part-as, mixed, mixed-none, mixed-more, mixed-all}
+use Rattle.bch.proofs.tables.TableFills.{stage, stage-one, stage-two, stage-three, stage-low}
+use Rattle.bch.proofs.tables.TableLoops.{FieldFilled, RootPart, powers-again, field-filled, roots-empty, pairs-step, trios-step, roots-once}
+use Rattle.bch.proofs.tables.TableLoops.{roots-again, code-filled}
 
 empty-long : (n : ℕ) → n ≤ length {A = ℕ} (replicate n 0)
 empty-long zero = omega arith
@@ -67,12 +69,14 @@ module _ (m : ℕ) (least : 5 ≤ m) (most : m ≤ 10) where
 
   stage-2 : (ts : List ℕ) × FieldPart m (stage m 2) (2 ^ m - 1) ts
   stage-2 =
-      added 3 1024 (stage m 1) (stage m 2) (λ k h. stage-low m g most k 1 (omega arith) (omega arith)) (λ k h. stage-low m g most k 2 (omega arith) (omega arith))
+      added 3 1024 (stage m 1) (stage m 2) (λ k h. stage-low m g most k 1 (omega arith) (omega arith))
+      (λ k h. stage-low m g most k 2 (omega arith) (omega arith))
       (λ k h. stage-two m g most k) stage-1
 
   stage-3 : (ts : List ℕ) × FieldPart m (stage m 3) (2 ^ m - 1) ts
   stage-3 =
-      added 5 1048576 (stage m 2) (stage m 3) (λ k h. stage-low m g most k 2 (omega arith) (omega arith)) (λ k h. stage-low m g most k 3 (omega arith) (omega arith))
+      added 5 1048576 (stage m 2) (stage m 3) (λ k h. stage-low m g most k 2 (omega arith) (omega arith))
+      (λ k h. stage-low m g most k 3 (omega arith) (omega arith))
       (λ k h. stage-three m g most k) stage-2
 
   stage-to : (t : ℕ) → 1 ≤ t → t ≤ 3 → (ts : List ℕ) × FieldPart m (stage m t) (2 ^ m - 1) ts
@@ -109,7 +113,8 @@ module _ (m : ℕ) (least : 5 ≤ m) (most : m ≤ 10) where
         let e = reduced (2 ^ m - 1) (a + b) in
         let us = set ts (2 * 2 ^ m + 8 + e) (a + 1024 * b) in
         let k : 2 * i + 2 + 2 ≡ 2 * suc i + 2 = omega arith in
-        let (f′, q′) = pairs-step m g (size-most m most) t ts f w a b e (2 * 2 ^ m + 8 + e) (a + 1024 * b) (omega arith) (omega arith) (omega arith) refl refl refl refl refl q in
+        let (f′, q′) = pairs-step m g (size-most m most) t ts f w a b e (2 * 2 ^ m + 8 + e) (a + 1024 * b) (omega arith) (omega arith)
+        (omega arith) refl refl refl refl refl q in
         (us, f′, subst (λ (j : ℕ). PairRoots m j (rootsIn m us)) k q′)
 
     trios-to : (i : ℕ) → i + 1 ≤ 2 ^ m - 1 → (ts : List ℕ) × FieldFilled m t ts × TrioRoots m (i + 1) (rootsIn m ts)
@@ -124,7 +129,8 @@ module _ (m : ℕ) (least : 5 ≤ m) (most : m ≤ 10) where
         let at = 2 * 2 ^ m + 8 + b in
         let v = getD ts at 0 % 1024 * 1024 + l in
         let k : i + 1 + 1 ≡ suc i + 1 = omega arith in
-        let (f′, q′) = trios-step m g (size-most m most) t ts f l e x b at v tl tu most (omega arith) (omega arith) he (alpha-mod m g (3 * l)) refl refl refl refl q in
+        let (f′, q′) = trios-step m g (size-most m most) t ts f l e x b at v tl tu most (omega arith) (omega arith) he
+        (alpha-mod m g (3 * l)) refl refl refl refl q in
         (set ts at v, f′, subst (λ (j : ℕ). TrioRoots m j (rootsIn m (set ts at v))) k q′)
 
     roots-to : (ts : List ℕ) × RootPart m t 0 ts

@@ -170,7 +170,8 @@ module _ (size i z : ℕ) (ks ss : List ℕ) {all : List ℕ} (more : i < length
   kept-in = turn i z (take size ks) (take size (put (key z i) ks)) ss more reliability (take-put size (key z i) ks) old
 
   -- .. or left out, where it is not below the last that is kept
-  pub kept-out : Rising 0 ks → 1 ≤ size → size ≤ length ks → getD ks (size - 1) 0 ≤ key z i → kept (take size ks) (i + 1) (drop (i + 1) (reliabilities ss)) ≡ all
+  pub kept-out : Rising 0 ks → 1 ≤ size → size ≤ length ks → getD ks (size - 1) 0 ≤ key z i
+      → kept (take size ks) (i + 1) (drop (i + 1) (reliabilities ss)) ≡ all
   kept-out r least room h =
       let long : length (take size ks) ≡ size - 1 + 1 = length-take-le size ks room ∙ omega arith in
       let last : getD (take size ks) (size - 1) 0 ≤ key z i = rw (getD-take size ks (size - 1) 0 (omega arith)) h in

@@ -18,7 +18,8 @@ use Rattle.bch.specs.Words.{Bits}
 use Rattle.bch.specs.Code.{Code, wordLength}
 use Rattle.bch.proofs.codes.Settings.{Lawful}
 use Rattle.bch.proofs.codes.HardLaws.{repaired-some, repaired-near}
-use Rattle.chase.specs.Soft.{hardBits, reliabilities, Mark, lost, fair, sure, Answer, Candidate, answer, lostAnswer, settled, better, candidate, tried, searchFrom, softStage}
+use Rattle.chase.specs.Soft.{hardBits, reliabilities, Mark, lost, fair, sure, Answer, Candidate, answer, lostAnswer, settled, better, candidate}
+use Rattle.chase.specs.Soft.{tried, searchFrom, softStage}
 use Rattle.chase.specs.Word.{Symbols, softDistance, allowed, test, weakest, Near, InReach, WordWeighed}
 use Rattle.chase.proofs.Cases as Cases
 use Rattle.chase.proofs.weighing.Weighing.{accepted, runner-up}

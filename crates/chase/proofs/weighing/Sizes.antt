@@ -16,7 +16,8 @@ use Rattle.bch.specs.Words.{flips, flip}
 use Rattle.bch.specs.Code.{Code, wordLength, designDistance}
 use Rattle.bch.proofs.codes.Settings.{Lawful, word-short}
 use Rattle.bch.proofs.codes.Counting.{flips-triangle, flips-flip, flips-same}
-use Rattle.chase.specs.Soft.{hardBits, reliabilities, Ranked, insertRanked, rank, sum, smallestSum, allowance, testWord, Answer, Mark, lost, fair, sure, lostAnswer, softStage}
+use Rattle.chase.specs.Soft.{hardBits, reliabilities, Ranked, insertRanked, rank, sum, smallestSum, allowance, testWord, Answer, Mark, lost}
+use Rattle.chase.specs.Soft.{fair, sure, lostAnswer, softStage}
 use Rattle.chase.specs.Word.{Symbols, weakest, test, softDistance, allowed, WordWeighed}
 use Rattle.chase.proofs.ranking.Keys.{reliability-lt}
 use Rattle.chase.proofs.test_words.Reach.{length-reliabilities, length-hard, length-test}
@@ -115,7 +116,9 @@ module _ (code : Code) (isCode : Lawful code) (p : ℕ) (ss : List ℕ) (long : 
         tries = most;
         place = near .tried;
         distance = omega (arith, dist, L, length-reliabilities ss, long, short);
-        margin = rw gap (mag-sub (allowed code ss word) (softDistance ss word) 32768 (omega (arith, allowed-most code ss word, isCode .t-most)) (omega (arith, L, length-reliabilities ss, long, short)));
+        margin =
+            rw gap (mag-sub (allowed code ss word) (softDistance ss word) 32768 (omega (arith, allowed-most code ss word, isCode .t-most))
+            (omega (arith, L, length-reliabilities ss, long, short)));
       }
 
   -- the soft stage's answer is small

@@ -34,20 +34,23 @@ list-take-requires : tie.Need-list-take-requires
 unfolding openingOf openAnswer
 list-take-requires c κs =
     let bs = c .before .before .before .before .before .before .before .args .input .now in
-    let (n, q) = answered-inr (openRefusal bs) (header bs) _ (sym (ap openingOf (c .before .before .h .given .1)) ∙ c .before .before .before .before .open-take .ensures) in
+    let (n, q) = answered-inr (openRefusal bs) (header bs) _ (sym (ap openingOf (c .before .before .h .given .1))
+    ∙ c .before .before .before .before .open-take .ensures) in
     (record { read = q; opened = opened-take bs (sym n); short = c .before .before .before .before .before .if1 .left }, search needs)
 
 returns-2 : tie.Need-returns-2
 unfolding openingOf openText
 returns-2 c =
     let bs = c .before .before .before .before .before .before .before .before .args .input .now in
-    front (c .refused .ensures .0) (opened-input bs (c .before .before .before .before .before .before .if1 .left) _ (sym (ap openingOf (c .before .before .before .r .given .1)) ∙ c .before .before .before .before .before .open-take .ensures))
+    front (c .refused .ensures .0) (opened-input bs (c .before .before .before .before .before .before .if1 .left) _
+    (sym (ap openingOf (c .before .before .before .r .given .1)) ∙ c .before .before .before .before .before .open-take .ensures))
 
 returns-3 : tie.Need-returns-3
 unfolding openingOf openText
 returns-3 c =
     let bs = c .before .before .before .before .before .before .before .before .args .input .now in
-    front (c .list-take .ensures) (opened-input bs (c .before .before .before .before .before .before .if1 .left) _ (sym (ap openingOf (c .before .before .before .h .given .1)) ∙ c .before .before .before .before .before .open-take .ensures))
+    front (c .list-take .ensures) (opened-input bs (c .before .before .before .before .before .before .if1 .left) _
+    (sym (ap openingOf (c .before .before .before .h .given .1)) ∙ c .before .before .before .before .before .open-take .ensures))
 
 pub list-spec : {M : Type 1} → statement M
 list-spec =

@@ -35,7 +35,8 @@ returns-3 : tie.Need-returns-3
 unfolding lineOf wordLineAnswer wordLineBuffer bitBytes checked
 returns-3 c =
     let a = c .before .before .before .before .before .before .before .before .args in
-    let e = word-room (a .message .now) (a .text .now) (omega arith) ∙ sym (c .before .before .before .at-most .ensures) ∙ ap checked (c .before .r .given .1) in
+    let e = word-room (a .message .now) (a .text .now) (omega arith) ∙ sym (c .before .before .before .at-most .ensures)
+    ∙ ap checked (c .before .r .given .1) in
     call-refused _ _ (softLine (a .index) (a .answer) (a .message .now)) (a .text .now) e
 
 enum-told : tie.Need-enum-told
@@ -54,7 +55,8 @@ returns-4 : tie.Need-returns-4
 unfolding lineOf wordLineAnswer wordLineBuffer bitBytes checked
 returns-4 c =
     let a = c .before .before .before .before .before .before .before .before .before .before .before .args in
-    let e = word-room (a .message .now) (a .text .now) (omega arith) ∙ sym (c .before .before .before .before .before .before .at-most .ensures) ∙ ap checked (c .before .before .before .before .enum-told .given .1) in
+    let e = word-room (a .message .now) (a .text .now) (omega arith) ∙ sym (c .before .before .before .before .before .before .at-most .ensures)
+    ∙ ap checked (c .before .before .before .before .enum-told .given .1) in
     call-written _ e (c .before .before .word .ensures .0)
 
 pub word-line-spec : {M : Type 1} → statement M

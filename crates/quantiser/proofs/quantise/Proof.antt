@@ -49,7 +49,8 @@ returns-3 c =
     let ks = a .kinds .now in
     let xs = a .levels .now in
     let ss = a .symbols .now in
-    let e = c .before .before .check .ensures ∙ sym (samples-each ks xs ss (c .before .before .before .before .if1 .left) (c .before .before .before .if2 .left)) in
+    let e = c .before .before .check .ensures ∙ sym (samples-each ks xs ss (c .before .before .before .before .if1 .left)
+    (c .before .before .before .if2 .left)) in
     (e, refusal-keeps _ ss (quantised (edgesOf (a .ladder)) ks xs) (sym (ap isRefusal e) ∙ sym (c .before .refuses .ensures) ∙ c .if3 .taken))
 
 slice-aggregate-write : tie.Need-slice-aggregate-write
@@ -68,8 +69,11 @@ returns-4 c =
     let ks = a .kinds .now in
     let xs = a .levels .now in
     let ss = a .symbols .now in
-    let e = c .before .before .before .before .before .before .before .check .ensures ∙ sym (samples-each ks xs ss (c .before .before .before .before .before .before .before .before .before .if1 .left) (c .before .before .before .before .before .before .before .before .if2 .left)) in
-    let passed = refusal-none _ (sym (c .before .before .before .before .before .before .refuses .ensures) ∙ c .before .before .before .before .before .if3 .left) in
+    let e = c .before .before .before .before .before .before .before .check .ensures
+    ∙ sym (samples-each ks xs ss (c .before .before .before .before .before .before .before .before .before .if1 .left)
+    (c .before .before .before .before .before .before .before .before .if2 .left)) in
+    let passed = refusal-none _ (sym (c .before .before .before .before .before .before .refuses .ensures)
+    ∙ c .before .before .before .before .before .if3 .left) in
     (e, c .before .before .write .ensures ∙ buffer-none _ ss (quantised (edgesOf (a .ladder)) ks xs) (sym e ∙ passed))
 
 pub quantise-spec : {M : Type 1} → statement M

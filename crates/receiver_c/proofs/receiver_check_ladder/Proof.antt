@@ -26,13 +26,15 @@ enum-told c = search needs
 returns : tie.Need-returns
 unfolding madeOf checkPacked
 returns c =
-    let e = ladder-refused (c .before .before .before .before .before .before .args .edges .now) _ (sym (ap madeOf (c .before .before .r .given .1)) ∙ c .before .before .before .before .make-ladder .ensures) in
+    let e = ladder-refused (c .before .before .before .before .before .before .args .edges .now) _
+    (sym (ap madeOf (c .before .before .r .given .1)) ∙ c .before .before .before .before .make-ladder .ensures) in
     c .refusal .ensures ∙ ap checkPacked e
 
 returns-2 : tie.Need-returns-2
 unfolding madeOf checkPacked
 returns-2 c =
-    let e = ladder-passed (c .before .before .before .before .args .edges .now) _ (sym (ap madeOf (c .enum-told .given .1)) ∙ c .before .before .make-ladder .ensures) .0 in
+    let e = ladder-passed (c .before .before .before .before .args .edges .now) _
+    (sym (ap madeOf (c .enum-told .given .1)) ∙ c .before .before .make-ladder .ensures) .0 in
     ap checkPacked e
 
 pub receiver-check-ladder-spec : {M : Type 1} → statement M

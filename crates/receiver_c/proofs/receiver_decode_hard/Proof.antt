@@ -20,7 +20,8 @@ refusal-requires : tie.Need-refusal-requires
 unfolding hardOf
 refusal-requires c κs =
     let a = c .before .before .before .before .before .before .before .before .before .args in
-    hard-number (code (a .m) (a .t) (a .n)) (a .bits .now) (a .codeword .now) _ (sym (ap hardOf (c .before .r .given .1)) ∙ c .before .before .before .before .before .decode-hard .ensures .0)
+    hard-number (code (a .m) (a .t) (a .n)) (a .bits .now) (a .codeword .now) _
+    (sym (ap hardOf (c .before .r .given .1)) ∙ c .before .before .before .before .before .decode-hard .ensures .0)
 
 enum-told : tie.Need-enum-told
 enum-told c = search needs
@@ -32,7 +33,8 @@ few : (c : tie.After-known-told2) → c .before .flips .given .0 .0 ≤ 3
 unfolding hardOf
 few c =
     let a = c .before .before .before .before .before .before .before .before .before .args in
-    flips-small (code (a .m) (a .t) (a .n)) (a .bits .now) (a .codeword .now) _ (sym (ap hardOf (c .before .flips .given .1)) ∙ c .before .before .before .before .before .decode-hard .ensures .0)
+    flips-small (code (a .m) (a .t) (a .n)) (a .bits .now) (a .codeword .now) _
+    (sym (ap hardOf (c .before .flips .given .1)) ∙ c .before .before .before .before .before .decode-hard .ensures .0)
 
 mul-result : tie.Need-mul-result
 mul-result c = omega (arith, few c)

@@ -21,7 +21,8 @@ enum-known-r c = search needs
 refusal-requires : tie.Need-refusal-requires
 refusal-requires c κs =
     let a = c .before .before .before .before .before .before .before .before .before .args in
-    soft-refused (code (a .m) (a .t) (a .n)) (a .depth) (a .symbols .now) (a .codeword .now) _ _ _ (c .before .r .given .1) (c .before .before .before .before .before .decode-soft .ensures .0)
+    soft-refused (code (a .m) (a .t) (a .n)) (a .depth) (a .symbols .now) (a .codeword .now) _ _ _ (c .before .r .given .1)
+    (c .before .before .before .before .before .decode-soft .ensures .0)
 
 enum-known-tries : tie.Need-enum-known-tries
 enum-known-tries c = search needs
@@ -30,7 +31,8 @@ answer-requires : tie.Need-answer-requires
 unfolding softOf lostAnswer
 answer-requires c κs =
     let a = c .before .before .before .before .before .before .before .before .before .args in
-    let room = told-room (code (a .m) (a .t) (a .n)) (a .depth) (a .symbols .now) (a .codeword .now) _ _ _ _ (c .before .tries .given .1) (c .before .before .before .before .before .decode-soft .ensures .0) refl in
+    let room = told-room (code (a .m) (a .t) (a .n)) (a .depth) (a .symbols .now) (a .codeword .now) _ _ _ _ (c .before .tries .given .1)
+    (c .before .before .before .before .before .decode-soft .ensures .0) refl in
     ((omega arith, omega arith, omega (arith, room .tries), omega arith, omega arith), omega arith)
 
 enum-known-distance : tie.Need-enum-known-distance
@@ -40,8 +42,11 @@ answer-requires-2 : tie.Need-answer-requires-2
 unfolding softOf lostAnswer
 answer-requires-2 c κs =
     let a = c .before .before .before .before .before .before .before .before .before .args in
-    let room = told-room (code (a .m) (a .t) (a .n)) (a .depth) (a .symbols .now) (a .codeword .now) _ _ _ _ (c .before .distance .given .1) (c .before .before .before .before .before .decode-soft .ensures .0) refl in
-    ((omega arith, room .flips, omega (arith, room .tries, room .place), omega (arith, room .place, room .tries), room .distance), mag-again (c .before .distance .given .0 .1 .0) (record { sfits = c .known-told3 .given .1 .0 .1 }) (room .margin))
+    let room = told-room (code (a .m) (a .t) (a .n)) (a .depth) (a .symbols .now) (a .codeword .now) _ _ _ _ (c .before .distance .given .1)
+    (c .before .before .before .before .before .decode-soft .ensures .0) refl in (
+      (omega arith, room .flips, omega (arith, room .tries, room .place), omega (arith, room .place, room .tries), room .distance),
+      mag-again (c .before .distance .given .0 .1 .0) (record { sfits = c .known-told3 .given .1 .0 .1 }) (room .margin),
+    )
 
 enum-known-distance-2 : tie.Need-enum-known-distance-2
 enum-known-distance-2 c = search needs
@@ -50,8 +55,11 @@ answer-requires-3 : tie.Need-answer-requires-3
 unfolding softOf lostAnswer
 answer-requires-3 c κs =
     let a = c .before .before .before .before .before .before .before .before .before .args in
-    let room = told-room (code (a .m) (a .t) (a .n)) (a .depth) (a .symbols .now) (a .codeword .now) _ _ _ _ (c .before .distance2 .given .1) (c .before .before .before .before .before .decode-soft .ensures .0) refl in
-    ((omega arith, room .flips, omega (arith, room .tries, room .place), omega (arith, room .place, room .tries), room .distance), mag-again (c .before .distance2 .given .0 .1 .0) (record { sfits = c .known-told4 .given .1 .0 .1 }) (room .margin))
+    let room = told-room (code (a .m) (a .t) (a .n)) (a .depth) (a .symbols .now) (a .codeword .now) _ _ _ _ (c .before .distance2 .given .1)
+    (c .before .before .before .before .before .decode-soft .ensures .0) refl in (
+      (omega arith, room .flips, omega (arith, room .tries, room .place), omega (arith, room .place, room .tries), room .distance),
+      mag-again (c .before .distance2 .given .0 .1 .0) (record { sfits = c .known-told4 .given .1 .0 .1 }) (room .margin),
+    )
 
 same-length : tie.Need-same-length
 same-length c = search needs
@@ -77,8 +85,10 @@ same-length-3 c = search needs
 returns-3 : tie.Need-returns-3
 unfolding softOf softPacked answerPacked lostAnswer
 returns-3 c =
-    let e = told-packed _ _ _ _ (c .before .before .distance .given .1) (c .before .before .before .before .before .before .decode-soft .ensures .0) in
-    (c .answer2 .ensures ∙ handed-on _ (c .before .before .distance .given .0 .1 .0) (record { sfits = c .before .known-told3 .given .1 .0 .1 }) ∙ e, c .before .before .before .before .before .before .decode-soft .ensures .1)
+    let e = told-packed _ _ _ _ (c .before .before .distance .given .1) (c .before .before .before .before .before .before .decode-soft .ensures .0) in (
+      c .answer2 .ensures ∙ handed-on _ (c .before .before .distance .given .0 .1 .0) (record { sfits = c .before .known-told3 .given .1 .0 .1 }) ∙ e,
+      c .before .before .before .before .before .before .decode-soft .ensures .1,
+    )
 
 same-length-4 : tie.Need-same-length-4
 same-length-4 c = search needs
@@ -86,8 +96,10 @@ same-length-4 c = search needs
 returns-4 : tie.Need-returns-4
 unfolding softOf softPacked answerPacked lostAnswer
 returns-4 c =
-    let e = told-packed _ _ _ _ (c .before .before .distance2 .given .1) (c .before .before .before .before .before .before .decode-soft .ensures .0) in
-    (c .answer3 .ensures ∙ handed-on _ (c .before .before .distance2 .given .0 .1 .0) (record { sfits = c .before .known-told4 .given .1 .0 .1 }) ∙ e, c .before .before .before .before .before .before .decode-soft .ensures .1)
+    let e = told-packed _ _ _ _ (c .before .before .distance2 .given .1) (c .before .before .before .before .before .before .decode-soft .ensures .0) in (
+      c .answer3 .ensures ∙ handed-on _ (c .before .before .distance2 .given .0 .1 .0) (record { sfits = c .before .known-told4 .given .1 .0 .1 }) ∙ e,
+      c .before .before .before .before .before .before .decode-soft .ensures .1,
+    )
 
 pub receiver-decode-soft-spec : {M : Type 1} → statement M
 receiver-decode-soft-spec =

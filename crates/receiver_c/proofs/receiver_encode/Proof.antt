@@ -16,7 +16,8 @@ enum-known-r c = search needs
 
 refusal-requires : tie.Need-refusal-requires
 unfolding encodedOf
-refusal-requires c κs = number-small _ (numbered-bits _ _ _ _) _ (sym (ap encodedOf (c .before .r .given .1)) ∙ c .before .before .before .before .before .encode .ensures .0)
+refusal-requires c κs =
+    number-small _ (numbered-bits _ _ _ _) _ (sym (ap encodedOf (c .before .r .given .1)) ∙ c .before .before .before .before .before .encode .ensures .0)
 
 enum-told : tie.Need-enum-told
 enum-told c = search needs

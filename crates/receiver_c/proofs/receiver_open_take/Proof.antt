@@ -15,7 +15,9 @@ enum-known-r c = search needs
 
 refusal-requires : tie.Need-refusal-requires
 unfolding openingOf
-refusal-requires c κs = open-number (c .before .before .before .before .before .args .take .now) _ (sym (ap openingOf (c .before .r .given .1)) ∙ c .before .before .before .open-take .ensures)
+refusal-requires c κs =
+    open-number (c .before .before .before .before .before .args .take .now) _
+    (sym (ap openingOf (c .before .r .given .1)) ∙ c .before .before .before .open-take .ensures)
 
 enum-known-h : tie.Need-enum-known-h
 enum-known-h c = search needs

@@ -35,7 +35,8 @@ refusal-requires-2 : tie.Need-refusal-requires-2
 unfolding checked
 refusal-requires-2 c κs =
     let a = c .before .before .before .before .before .before .before .before .before .before .before .before .before .before .before .args in
-    number-small _ (numbered-samples (a .kinds .now) (a .levels .now) (a .symbols .now)) _ (sym (ap checked (c .before .r2 .given .1)) ∙ c .before .before .before .before .before .quantise .ensures .0)
+    number-small _ (numbered-samples (a .kinds .now) (a .levels .now) (a .symbols .now)) _
+    (sym (ap checked (c .before .r2 .given .1)) ∙ c .before .before .before .before .before .quantise .ensures .0)
 
 enum-told : tie.Need-enum-told
 enum-told c = search needs
@@ -44,7 +45,8 @@ returns : tie.Need-returns
 unfolding madeOf checkPacked
 returns c =
     let a = c .before .before .before .before .before .before .before .before .before .args in
-    let e = first-ladder (a .edges .now) (a .kinds .now) (a .levels .now) (a .symbols .now) _ (ladder-refused (a .edges .now) _ (sym (ap madeOf (c .before .before .r .given .1)) ∙ c .before .before .before .before .make-ladder .ensures)) in
+    let e = first-ladder (a .edges .now) (a .kinds .now) (a .levels .now) (a .symbols .now) _
+    (ladder-refused (a .edges .now) _ (sym (ap madeOf (c .before .before .r .given .1)) ∙ c .before .before .before .before .make-ladder .ensures)) in
     (c .refusal .ensures ∙ ap checkPacked (e .0), e .1)
 
 same-length : tie.Need-same-length
@@ -54,7 +56,8 @@ returns-2 : tie.Need-returns-2
 unfolding madeOf checked checkPacked
 returns-2 c =
     let a = c .before .before .before .before .before .before .before .before .before .before .before .before .before .before .before .before .args in
-    let l = ladder-passed (a .edges .now) _ (sym (ap madeOf (c .before .before .before .before .before .before .before .before .before .ladder .given .1)) ∙ c .before .before .before .before .before .before .before .before .before .before .before .make-ladder .ensures) in
+    let l = ladder-passed (a .edges .now) _ (sym (ap madeOf (c .before .before .before .before .before .before .before .before .before .ladder .given
+    .1)) ∙ c .before .before .before .before .before .before .before .before .before .before .before .make-ladder .ensures) in
     let q = c .before .before .before .before .before .before .quantise .ensures in
     let e = sym (ap checked (c .before .before .r2 .given .1)) ∙ q .0 in
     let n = then-samples (a .edges .now) (a .kinds .now) (a .levels .now) (a .symbols .now) (l .0) in
@@ -67,7 +70,8 @@ returns-3 : tie.Need-returns-3
 unfolding madeOf checked checkPacked
 returns-3 c =
     let a = c .before .before .before .before .before .before .before .before .before .before .before .before .before .before .args in
-    let l = ladder-passed (a .edges .now) _ (sym (ap madeOf (c .before .before .before .before .before .before .before .ladder .given .1)) ∙ c .before .before .before .before .before .before .before .before .before .make-ladder .ensures) in
+    let l = ladder-passed (a .edges .now) _ (sym (ap madeOf (c .before .before .before .before .before .before .before .ladder .given .1))
+    ∙ c .before .before .before .before .before .before .before .before .before .make-ladder .ensures) in
     let q = c .before .before .before .before .quantise .ensures in
     let e = sym (ap checked (c .enum-told .given .1)) ∙ q .0 in
     let n = then-samples (a .edges .now) (a .kinds .now) (a .levels .now) (a .symbols .now) (l .0) in

@@ -19,7 +19,8 @@ refusal-requires : tie.Need-refusal-requires
 unfolding wordsOf
 refusal-requires c κs =
     let a = c .before .before .before .before .before .before .before .before .before .before .before .before .before .args in
-    take-number (a .take .now) (a .messages .now) (a .marks .now) _ (sym (ap wordsOf (c .before .r .given .1)) ∙ c .before .before .before .before .before .before .before .read-take .ensures .0)
+    take-number (a .take .now) (a .messages .now) (a .marks .now) _
+    (sym (ap wordsOf (c .before .r .given .1)) ∙ c .before .before .before .before .before .before .before .read-take .ensures .0)
 
 enum-known-totals : tie.Need-enum-known-totals
 enum-known-totals c = search needs
@@ -60,8 +61,13 @@ returns-2 c =
     let bytes = c .before .before .before .before .before .before .before .before .before .before .before .before .before .shared-slice-known .given in
     let read = c .before .before .before .before .before .before .before .before .read-take .ensures in
     let is = ap wordsOf (c .before .before .totals .given .1) in
-    let promise = read .1 .1 .1 _ is in
-    (c .totals2 .ensures ∙ ap takePacked (sym is ∙ read .0), (read .1 .0, (read .1 .1 .0, totals-promise _ _ _ _ _ promise (few-words bs (omega (arith, bytes 0)) (omega (arith, bytes 1))) (c .totals2 .ensures))))
+    let promise = read .1 .1 .1 _ is in (
+      c .totals2 .ensures ∙ ap takePacked (sym is ∙ read .0),
+      (
+        read .1 .0,
+        (read .1 .1 .0, totals-promise _ _ _ _ _ promise (few-words bs (omega (arith, bytes 0)) (omega (arith, bytes 1))) (c .totals2 .ensures)),
+      ),
+    )
 
 pub receiver-read-take-spec : {M : Type 1} → statement M
 receiver-read-take-spec =

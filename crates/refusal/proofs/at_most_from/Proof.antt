@@ -35,7 +35,8 @@ returns-2 c =
     let a = c .before .before .before .before .before .args in
     let h = c .before .highest in
     let xs = drop (a .start) (a .bytes .now) in
-    let all = subst (λ (l : List ℕ). AtMost (h .result) l) (take-all (length (a .bytes .now) - a .start) xs (omega (arith, length-drop (a .start) (a .bytes .now)))) (h .ensures) in
+    let all = subst (λ (l : List ℕ). AtMost (h .result) l) (take-all (length (a .bytes .now) - a .start) xs
+    (omega (arith, length-drop (a .start) (a .bytes .now)))) (h .ensures) in
     all-most (a .number) (a .most) (a .start) xs (λ i l. omega (arith, all i l))
 
 first-above-requires : tie.Need-first-above-requires

@@ -33,7 +33,10 @@ returns-3 : tie.Need-returns-3
 unfolding bitsCheck
 returns-3 c =
     let a = c .before .before .before .before .args in
-    c .at-most .ensures ∙ sym (simp (eq-eqb (length (a .bits .now)) (a .k) (c .before .before .if1 .left), eq-eqb (a .room) (a .n) (c .before .if2 .left)) (first-last (bitBytes (a .bits .now))))
+    c .at-most .ensures ∙ sym (simp (
+      eq-eqb (length (a .bits .now)) (a .k) (c .before .before .if1 .left),
+      eq-eqb (a .room) (a .n) (c .before .if2 .left),
+    ) (first-last (bitBytes (a .bits .now))))
 
 pub bits-spec : {M : Type 1} → statement M
 bits-spec =

@@ -33,7 +33,11 @@ returns-3 : tie.Need-returns-3
 unfolding symbolsCheck
 returns-3 c =
     let a = c .before .before .before .before .before .args in
-    c .refuse3 .ensures ∙ sym (simp (le-leb (a .depth) 6 (c .before .before .before .if1 .left), eq-eqb (length (a .symbols .now)) (a .n) (c .before .before .if2 .left), ne-eqb (a .room) (a .n) (c .before .if3 .taken)))
+    c .refuse3 .ensures ∙ sym (simp (
+      le-leb (a .depth) 6 (c .before .before .before .if1 .left),
+      eq-eqb (length (a .symbols .now)) (a .n) (c .before .before .if2 .left),
+      ne-eqb (a .room) (a .n) (c .before .if3 .taken),
+    ))
 
 at-most-requires : tie.Need-at-most-requires
 at-most-requires c κs = search needs
@@ -42,7 +46,12 @@ returns-4 : tie.Need-returns-4
 unfolding symbolsCheck
 returns-4 c =
     let a = c .before .before .before .before .before .args in
-    c .at-most .ensures ∙ sym (simp (le-leb (a .depth) 6 (c .before .before .before .if1 .left), eq-eqb (length (a .symbols .now)) (a .n) (c .before .before .if2 .left), eq-eqb (a .room) (a .n) (c .before .if3 .left)) (first-last (symbolBytes 0 (a .symbols .now))))
+    c .at-most .ensures ∙ sym (simp (
+      le-leb (a .depth) 6 (c .before .before .before .if1 .left),
+      eq-eqb (length (a .symbols .now)) (a .n) (c .before .before .if2 .left),
+      eq-eqb (a .room) (a .n) (c .before .if3 .left),
+    )
+    (first-last (symbolBytes 0 (a .symbols .now))))
 
 pub symbols-spec : {M : Type 1} → statement M
 symbols-spec =

@@ -9,7 +9,8 @@ use lib.Dec.{leb, eqb}
 use lib.Ieee.{Float, isNan}
 use lib.ListN.{length, getD, drop}
 use Rattle.bch.specs.Code.{Code, parityLength, wordLength, messageLength}
-use Rattle.take_format.specs.Refusal.{Refusal, refused, unless, unlessAtMost, firstOf, settings, depthCheck, inputLength, outputLength, bitBytes, symbolBytes, bitsCheck, bitsRefusal, symbolsCheck, softRefusal}
+use Rattle.take_format.specs.Refusal.{Refusal, refused, unless, unlessAtMost, firstOf, settings, depthCheck, inputLength, outputLength}
+use Rattle.take_format.specs.Refusal.{bitBytes, symbolBytes, bitsCheck, bitsRefusal, symbolsCheck, softRefusal}
 use Rattle.take_format.specs.Samples.{isLadder, ladderCheck, samplesCheck, samplesRefusal}
 use Rattle.take_format.specs.Take.{header, headerRefusal, takeSymbolsCheck, openRefusal, takeRefusal}
 use Rattle.take_format.proofs.checks.RefusalLaws.{some-not-none, IfRefused, AllSo, first-so, both-so, unless-refused, bytes-refused}
@@ -61,7 +62,10 @@ unfolding bitsRefusal bitsCheck bitBytes AllSo
 numbered-bits c k bits codeword =
     let checks = inputLength k (length bits) ∷ outputLength (wordLength c) (length codeword) ∷ bitBytes bits ∷ [] in
     numbered-call c (firstOf checks)
-    (first-so Numbered checks (numbered-input k (length bits), (numbered-output (wordLength c) (length codeword), (numbered-bytes 8 1 0 bits (omega arith) (omega arith), tt))))
+    (first-so Numbered checks (
+      numbered-input k (length bits),
+      (numbered-output (wordLength c) (length codeword), (numbered-bytes 8 1 0 bits (omega arith) (omega arith), tt)),
+    ))
 
 pub numbered-soft : (c : Code) (p : ℕ) (symbols codeword : List ℕ) → IfRefused Numbered (softRefusal c p symbols codeword)
 unfolding softRefusal symbolsCheck AllSo
@@ -82,7 +86,8 @@ numbered-sample at (k ∷ ks) [] r e = some-not-none r (sym e)
 numbered-sample at (zero ∷ ks) (x ∷ xs) r e = numbered-sample (suc at) ks xs r e
 numbered-sample at (suc zero ∷ ks) (x ∷ xs) r e = go (isNan x) e (numbered-sample (suc at) ks xs)
   where
-    go : (b : Bool) → elim b [ true ↦ refused 11 at | false ↦ samplesCheck (suc at) ks xs ] ≡ some r → IfRefused Numbered (samplesCheck (suc at) ks xs) → Numbered r
+    go : (b : Bool) → elim b [ true ↦ refused 11 at | false ↦ samplesCheck (suc at) ks xs ] ≡ some r
+        → IfRefused Numbered (samplesCheck (suc at) ks xs) → Numbered r
     go true e f = let z : r .number ≡ 11 = cc in (omega arith, omega arith)
     go false e f = f r e
 numbered-sample at (suc (suc k) ∷ ks) (x ∷ xs) r e = let z : r .number ≡ 10 = cc in (omega arith, omega arith)
@@ -105,8 +110,16 @@ module _ (bs : List ℕ) where
       let long = leb 12 (length bs) in
       let zero7 = eqb (getD bs 7 0) 0 in
       let whole = eqb (h .offset) (12 + h .label) && eqb (length bs) (h .offset + h .words * wordLength (h .code)) in
-      first-so Numbered (unless 12 long ∷ unless 13 zero7 ∷ firstOf (settings (h .code)) ∷ depthCheck (h .depth) ∷ unless 14 whole ∷ [])
-      (numbered-unless 12 long (omega arith) (omega arith), (numbered-unless 13 zero7 (omega arith) (omega arith), (first-so Numbered (settings (h .code)) (numbered-settings (h .code)), (numbered-depth (h .depth), (numbered-unless 14 whole (omega arith) (omega arith), tt)))))
+      first-so Numbered (unless 12 long ∷ unless 13 zero7 ∷ firstOf (settings (h .code)) ∷ depthCheck (h .depth) ∷ unless 14 whole ∷ []) (
+        numbered-unless 12 long (omega arith) (omega arith),
+        (
+          numbered-unless 13 zero7 (omega arith) (omega arith),
+          (
+            first-so Numbered (settings (h .code)) (numbered-settings (h .code)),
+            (numbered-depth (h .depth), (numbered-unless 14 whole (omega arith) (omega arith), tt)),
+          ),
+        ),
+      )
 
   numbered-words : IfRefused Numbered (takeSymbolsCheck bs)
   unfolding takeSymbolsCheck

@@ -14,7 +14,8 @@ use lib.Ieee.Compare.{differs-from-itself, nan-differs}
 use lib.ListN.{length, getD, drop, drop-of-length-le}
 use lib.Seq.{drop-cons, drop-length}
 use Rattle.take_format.specs.Refusal.{refused}
-use Rattle.take_format.specs.Samples.{zeroLevel, rising, ladderCheck, Sample, heard, sampleOf, magnitude, edgesAtMost, symbol, quantised, samplesCheck, samplesRefusal}
+use Rattle.take_format.specs.Samples.{zeroLevel, rising, ladderCheck, Sample, heard, sampleOf, magnitude, edgesAtMost, symbol, quantised}
+use Rattle.take_format.specs.Samples.{samplesCheck, samplesRefusal}
 use Rattle.take_format.proofs.checks.RefusalLaws.{first-last}
 
 -- ---- the edges

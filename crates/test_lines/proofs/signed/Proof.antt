@@ -35,8 +35,10 @@ minus : (z : ℤ) → SFits w32 z → ltZ (wide z) (pos 0) ≡ true → SFits w6
 minus z f e = negated (wide z) e (subst (SFits w32) (sym (wide-is z f)) f)
 
 plus : (z : ℤ) → SFits w32 z → ltZ (wide z) (pos 0) ≡ false → T (nonNeg (wide z)) × Fits w64 (natAbs (wide z))
-plus z f e =
-    (yes-nonNeg {z = wide z} (ltZ-no {a = wide z} {b = pos 0} (subst (λ (b : Bool). T (not b)) (sym e) tt)), fits-natAbs tt (subst (SFits w32) (sym (wide-is z f)) f))
+plus z f e = (
+  yes-nonNeg {z = wide z} (ltZ-no {a = wide z} {b = pos 0} (subst (λ (b : Bool). T (not b)) (sym e) tt)),
+  fits-natAbs tt (subst (SFits w32) (sym (wide-is z f)) f),
+)
 
 cast-wide : tie.Need-cast-wide
 cast-wide c = subst (SFits w64) (sym (toZ-ofZ (c .fits .value))) (sfits-widen tt (c .fits .value))

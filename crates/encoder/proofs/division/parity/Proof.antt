@@ -40,8 +40,13 @@ step-requires c κs =
     let l = c .before .before .before .loop in
     let bs = s .args .message .now in
     let small : l .register < 2 ^ s .args .r =
-    rw (l .inv .1) (remainder-lt (s .args .r) (s .args .g) (s .pre .1) (drop (l .j) bs) (below-drop 2 (l .j) bs (s .pre .2))) in
-    (s .pre .0, c .before .before .before .before .power-of-two .ensures, s .pre .1, small, omega (arith, below-at 1 bs (l .j - 1) (s .pre .2), c .wide .ensures))
+    rw (l .inv .1) (remainder-lt (s .args .r) (s .args .g) (s .pre .1) (drop (l .j) bs) (below-drop 2 (l .j) bs (s .pre .2))) in (
+      s .pre .0,
+      c .before .before .before .before .power-of-two .ensures,
+      s .pre .1,
+      small,
+      omega (arith, below-at 1 bs (l .j - 1) (s .pre .2), c .wide .ensures),
+    )
 
 loop-less : tie.Need-loop-less Inv-loop μ-loop
 loop-less c = search needs

@@ -14,7 +14,8 @@ use Rattle.encoder.proofs.division.write_parity.Statement.{statement}
 use Rattle.encoder.proofs.division.write_parity.Tie as tie
 
 abbrev Inv-loop : tie.InvT-loop
-Inv-loop r register codeword₀ left₀ i₀ codeword left i = (i ≤ r) × (left ≡ register / 2 ^ i) × (length codeword ≡ length codeword₀) × (codeword ≡ paste codeword₀ 0 (word r register) i)
+Inv-loop r register codeword₀ left₀ i₀ codeword left i =
+    (i ≤ r) × (left ≡ register / 2 ^ i) × (length codeword ≡ length codeword₀) × (codeword ≡ paste codeword₀ 0 (word r register) i)
 
 abbrev μ-loop : tie.MeasureT-loop
 μ-loop r register codeword₀ left₀ i₀ codeword left i = r - i
@@ -44,7 +45,8 @@ loop-again c =
       omega arith,
       ap (λ (x : ℕ). x / 2) (l .inv .1) ∙ shr-shr a (l .i) 1,
       simp length-set (l .inv .2),
-      copied-more (s .args .codeword .now) 0 (word k a) (l .i) (l .i) (omega arith) (l .codeword) (l .inv .3) _ (omega arith) (omega (arith, length-word k a)) bit,
+      copied-more (s .args .codeword .now) 0 (word k a) (l .i) (l .i) (omega arith) (l .codeword) (l .inv .3) _ (omega arith)
+          (omega (arith, length-word k a)) bit,
     )
 
 same-length : tie.Need-same-length Inv-loop μ-loop

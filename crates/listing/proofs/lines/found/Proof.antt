@@ -30,12 +30,24 @@ same-length c = search needs
 
 returns : tie.Need-returns
 returns c =
-    let s = c .before .before .before .before .before .before .before .before .before .before .before .before .before .before .before .before .before .before .before in
+    let s = c .before .before .before .before .before .before .before .before .before .before .before .before .before .before .before .before .before
+    .before .before in
     let a = s .args in (
       same-text
-          (found-text (decimal (a .index)) (a .mark .now) (decimal (a .distance)) (decimal (a .tries)) (bitsText (a .message .now)) (read-again (a .margin) (s .fits .margin)))
-          (then (c .before .before .before .before .before .before .before .before .before .before .before .before .before .before .index-mark .ensures .0) (then (c .before .before .before .before .before .before .before .before .before .before .numbers .ensures .0) (then (c .before .before .before .before .before .before .bits .ensures) (c .before .before .character .ensures)))),
-      omega (arith, c .before .before .before .before .before .before .before .before .before .before .before .before .before .before .index-mark .ensures .1, c .before .before .before .before .before .before .before .before .before .before .numbers .ensures .1, c .before .before .before .before .before .before .bits .ensures .ends, bits-long (a .message .now), c .before .before .character .ensures .ends),
+          (found-text (decimal (a .index)) (a .mark .now) (decimal (a .distance)) (decimal (a .tries)) (bitsText (a .message .now))
+          (read-again (a .margin) (s .fits .margin)))
+          (then (c .before .before .before .before .before .before .before .before .before .before .before .before .before .before .index-mark
+          .ensures .0) (then (c .before .before .before .before .before .before .before .before .before .before .numbers .ensures .0)
+          (then (c .before .before .before .before .before .before .bits .ensures) (c .before .before .character .ensures)))),
+      omega (
+        arith,
+        c .before .before .before .before .before .before .before .before .before .before .before .before .before .before .index-mark
+            .ensures .1,
+        c .before .before .before .before .before .before .before .before .before .before .numbers .ensures .1,
+        c .before .before .before .before .before .before .bits .ensures .ends,
+        bits-long (a .message .now),
+        c .before .before .character .ensures .ends,
+      ),
     )
 
 pub found-spec : {M : Type 1} → statement M

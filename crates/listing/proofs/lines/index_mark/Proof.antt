@@ -27,8 +27,17 @@ returns c =
     let n = c .before .before .before .before .before .before .before .before .before .before .number-and .ensures in
     let m = c .before .before .before .before .before .before .characters .ensures in
     let h = c .before .before .character .ensures in
-    let a = c .before .before .before .before .before .before .before .before .before .before .before .before .before .before .args in
-    (same-text (spaced-cons (decimal (a .index)) (a .mark .now ∷ [])) (then (n .0) (then m h)), omega (arith, n .1, m .ends, h .ends, c .before .before .before .before .before .before .before .before .before .before .before .before .before .before .pre .0))
+    let a = c .before .before .before .before .before .before .before .before .before .before .before .before .before .before .args in (
+      same-text (spaced-cons (decimal (a .index)) (a .mark .now ∷ [])) (then (n .0) (then m h)),
+      omega (
+        arith,
+        n .1,
+        m .ends,
+        h .ends,
+        c .before .before .before .before .before .before .before .before .before .before .before .before .before
+            .before .pre .0,
+      ),
+    )
 
 pub index-mark-spec : {M : Type 1} → statement M
 index-mark-spec =

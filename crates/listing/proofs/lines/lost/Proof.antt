@@ -32,8 +32,17 @@ returns : tie.Need-returns
 unfolding ascii
 returns c = (
   same-text (lost-text _ _)
-      (then (c .before .before .before .before .before .before .before .before .before .before .before .before .before .before .before .before .number-and .ensures .0) (then (c .before .before .before .before .before .before .before .before .before .before .before .characters .ensures) (then (c .before .before .before .before .before .before .before .number-and2 .ensures .0) (c .before .before .characters2 .ensures)))),
-  omega (arith, c .before .before .before .before .before .before .before .before .before .before .before .before .before .before .before .before .number-and .ensures .1, c .before .before .before .before .before .before .before .before .before .before .before .characters .ensures .ends, c .before .before .before .before .before .before .before .number-and2 .ensures .1, c .before .before .characters2 .ensures .ends),
+      (then (c .before .before .before .before .before .before .before .before .before .before .before .before .before .before .before .before
+      .number-and .ensures .0) (then (c .before .before .before .before .before .before .before .before .before .before .before .characters .ensures)
+      (then (c .before .before .before .before .before .before .before .number-and2 .ensures .0) (c .before .before .characters2 .ensures)))),
+  omega (
+    arith,
+    c .before .before .before .before .before .before .before .before .before .before .before .before .before .before .before .before
+        .number-and .ensures .1,
+    c .before .before .before .before .before .before .before .before .before .before .before .characters .ensures .ends,
+    c .before .before .before .before .before .before .before .number-and2 .ensures .1,
+    c .before .before .characters2 .ensures .ends,
+  ),
 )
 
 pub lost-spec : {M : Type 1} → statement M

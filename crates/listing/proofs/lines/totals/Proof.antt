@@ -26,9 +26,11 @@ same-length c = search needs
 returns : tie.Need-returns
 returns c =
     same-text (totals-text _)
-    (then (c .before .before .before .before .before .before .before .before .before .before .before .before .before .before .before .before .before .before .number-and .ensures .0)
+    (then (c .before .before .before .before .before .before .before .before .before .before .before .before .before .before .before .before .before
+    .before .number-and .ensures .0)
     (then (c .before .before .before .before .before .before .before .before .before .before .before .before .before .before .number-and2 .ensures .0)
-    (then (c .before .before .before .before .before .before .before .before .before .before .number-and3 .ensures .0) (then (c .before .before .before .before .before .before .number-and4 .ensures .0) (c .before .before .number-and5 .ensures .0)))))
+    (then (c .before .before .before .before .before .before .before .before .before .before .number-and3 .ensures .0)
+    (then (c .before .before .before .before .before .before .number-and4 .ensures .0) (c .before .before .number-and5 .ensures .0)))))
 
 pub totals-spec : {M : Type 1} → statement M
 totals-spec =

@@ -48,8 +48,11 @@ same-length c = search needs
 returns : tie.Need-returns
 unfolding answerLine softOf
 returns c =
-    let a = c .before .before .before .before .before .before .before .before .before .args in
-    (same-text (by-case (a .index) (a .message .now) (c .before .before .before .before .before .answer .given .1)) (c .before .before .refused .ensures .0), omega (arith, c .before .before .refused .ensures .1))
+    let a = c .before .before .before .before .before .before .before .before .before .args in (
+      same-text (by-case (a .index) (a .message .now) (c .before .before .before .before .before .answer .given .1))
+          (c .before .before .refused .ensures .0),
+      omega (arith, c .before .before .refused .ensures .1),
+    )
 
 same-length-2 : tie.Need-same-length-2
 same-length-2 c = search needs
@@ -57,8 +60,11 @@ same-length-2 c = search needs
 returns-2 : tie.Need-returns-2
 unfolding answerLine softOf
 returns-2 c =
-    let a = c .before .before .before .before .before .before .before .before .before .args in
-    (same-text (lost-any (a .index) (c .before .before .before .before .before .answer2 .given .0 .0) (a .message .now) ∙ by-case (a .index) (a .message .now) (c .before .before .before .before .before .answer2 .given .1)) (c .before .before .lost .ensures .0), omega (arith, c .before .before .lost .ensures .1))
+    let a = c .before .before .before .before .before .before .before .before .before .args in (
+      same-text (lost-any (a .index) (c .before .before .before .before .before .answer2 .given .0 .0) (a .message .now)
+          ∙ by-case (a .index) (a .message .now) (c .before .before .before .before .before .answer2 .given .1)) (c .before .before .lost .ensures .0),
+      omega (arith, c .before .before .lost .ensures .1),
+    )
 
 same-length-3 : tie.Need-same-length-3
 same-length-3 c = search needs

@@ -38,7 +38,8 @@ list-words-requires c κs =
     let n = c .before .before .long .result in (
       s .pre .0,
       record {
-        long = part-long n (omega (arith, c .before .before .long .ensures, code-short _ (headerOf (s .args .h)) (s .pre .0))) ∙ c .before .before .long .ensures;
+        long =
+            part-long n (omega (arith, c .before .before .long .ensures, code-short _ (headerOf (s .args .h)) (s .pre .0))) ∙ c .before .before .long .ensures;
         bits = below-take 2 n (replicate 1023 0) (below-zeros 1 1023);
       },
       s .pre .1,
@@ -59,7 +60,8 @@ returns c =
     let h = headerOf (s .args .h) in
     let bs = s .args .take .now in
     let l = c .before .before .before .before .before .before .before .list-words .ensures in
-    same-text (ap (λ (k : Totals). linesOf (h .code) (h .depth) (h .words) (drop (h .offset) bs) ++ totalsLine k) (l .totals) ∙ take-text bs h (s .pre .0)) (then (l .text) (c .before .before .totals .ensures))
+    same-text (ap (λ (k : Totals). linesOf (h .code) (h .depth) (h .words) (drop (h .offset) bs) ++ totalsLine k) (l .totals)
+    ∙ take-text bs h (s .pre .0)) (then (l .text) (c .before .before .totals .ensures))
 
 pub list-take-spec : {M : Type 1} → statement M
 list-take-spec =

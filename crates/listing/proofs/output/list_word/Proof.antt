@@ -52,9 +52,16 @@ word-requires c κs =
     let d = c .before .before .before .before .before .before .before .decode-word in
     let word = d .last .1 .1 .1 .0 in
     let at = answered-at (a .take .now) (headerOf (a .h)) (s .pre .0 .0) (a .w) (s .pre .0 .1) (a .codeword .now) (s .pre .0 .2 .long) in
-    let bits : Bits word = subst Bits (sym (d .ensures .1 ∙ at .1)) (bits-at (a .take .now) (headerOf (a .h)) (s .pre .0 .0) (a .w) (s .pre .0 .1) (a .codeword .now) (s .pre .0 .2 .bits)) in (
+    let bits : Bits word = subst Bits (sym (d .ensures .1 ∙ at .1))
+    (bits-at (a .take .now) (headerOf (a .h)) (s .pre .0 .0) (a .w) (s .pre .0 .1) (a .codeword .now) (s .pre .0 .2 .bits)) in (
       below-take 2 (end - start) (drop start word) (below-drop 2 start word bits),
-      omega (arith, length-take (end - start) (drop start word), c .before .before .before .long .ensures, c .before .before .before .before .parity .ensures, s .pre .1),
+      omega (
+        arith,
+        length-take (end - start) (drop start word),
+        c .before .before .before .long .ensures,
+        c .before .before .before .before .parity .ensures,
+        s .pre .1,
+      ),
     )
 
 counted-requires : tie.Need-counted-requires
@@ -81,12 +88,24 @@ returns c =
     let at = answered-at (a .take .now) h (s .pre .0 .0) (a .w) (s .pre .0 .1) (a .codeword .now) (s .pre .0 .2 .long) in
     let answer = d .ensures .0 ∙ at .0 in
     let long : length word ≡ a .h .n = d .kept .1 .1 .1 .0 ∙ s .pre .0 .2 .long in
-    let behind = take-all (end - start) (drop start word) (omega (arith, length-drop start word, c .before .before .before .before .before .before .before .long .ensures, long)) ∙ ap (λ (k : ℕ). drop k word) (c .before .before .before .before .before .before .before .before .parity .ensures) in
-    let few = few-more (a .w) (totalsTold (a .k .totals)) (s .pre .0 .3) (markByte (x .mark)) (x .tries) (tries-at (a .take .now) h (s .pre .0 .0) (a .w) (s .pre .0 .1)) in
-    let told = c .counted .ensures ∙ counts (totalsTold (a .k .totals)) _ word x answer ∙ few-capped (a .w + 1) (countedOf (totalsTold (a .k .totals)) (markByte (x .mark)) (x .tries)) few (omega (arith, s .pre .0 .1, words-most (a .take .now) h (s .pre .0 .0))) in (
+    let behind = take-all (end - start) (drop start word) (omega
+    (arith, length-drop start word, c .before .before .before .before .before .before .before .long .ensures, long))
+    ∙ ap (λ (k : ℕ). drop k word) (c .before .before .before .before .before .before .before .before .parity .ensures) in
+    let few = few-more (a .w) (totalsTold (a .k .totals)) (s .pre .0 .3) (markByte (x .mark)) (x .tries)
+    (tries-at (a .take .now) h (s .pre .0 .0) (a .w) (s .pre .0 .1)) in
+    let told = c .counted .ensures ∙ counts (totalsTold (a .k .totals)) _ word x answer
+    ∙ few-capped (a .w + 1) (countedOf (totalsTold (a .k .totals)) (markByte (x .mark)) (x .tries)) few
+    (omega (arith, s .pre .0 .1, words-most (a .take .now) h (s .pre .0 .0))) in (
       record {
         text = same-text (soft-line (h .code) (a .w) _ word x answer _ behind) (put .ensures .0);
-        at-most = omega (arith, put .ensures .1, length-take (end - start) (drop start word), c .before .before .before .before .before .before .before .long .ensures, c .before .before .before .before .before .before .before .before .parity .ensures);
+        at-most =
+            omega (
+              arith,
+              put .ensures .1,
+              length-take (end - start) (drop start word),
+              c .before .before .before .before .before .before .before .long .ensures,
+              c .before .before .before .before .before .before .before .before .parity .ensures,
+            );
         totals = told;
         few = subst (Few (a .w + 1)) (sym told) few;
       },

@@ -28,8 +28,16 @@ loop-holds c =
 list-word-requires : tie.Need-list-word-requires Inv-loop μ-loop
 list-word-requires c κs =
     let s = c .before .before .before .before .before .before .before .before in
-    let l = c .before .before .before .loop in
-    ((s .pre .0, omega (arith, c .before .before .loop-test .taken), l .inv .1, l .inv .3 .few), omega (arith, l .inv .2, s .pre .2, line-room _ (headerOf (s .args .h)) (s .pre .0) (l .w) (l .k .at) (omega (arith, c .before .before .loop-test .taken)) (l .inv .3 .at-most)))
+    let l = c .before .before .before .loop in (
+      (s .pre .0, omega (arith, c .before .before .loop-test .taken), l .inv .1, l .inv .3 .few),
+      omega (
+        arith,
+        l .inv .2,
+        s .pre .2,
+        line-room _ (headerOf (s .args .h)) (s .pre .0) (l .w) (l .k .at)
+            (omega (arith, c .before .before .loop-test .taken)) (l .inv .3 .at-most),
+      ),
+    )
 
 add-w : tie.Need-add-w Inv-loop μ-loop
 add-w c = search needs
@@ -41,8 +49,13 @@ loop-again : tie.Need-loop-again Inv-loop μ-loop
 loop-again c =
     let s = c .before .before .before .before .before .before .before .before .before .before .before .before .before in
     let l = c .before .before .before .before .before .before .before .before .loop in
-    let d = c .before .before .before .before .list-word in
-    (omega (arith, c .before .before .before .before .before .before .before .loop-test .taken), d .ensures .1, omega (arith, l .inv .2, d .kept .1 .1 .1 .1 .1 .0), listed-more _ (headerOf (s .args .h)) (s .pre .0) (l .w) _ _ _ (l .k) (d .result) (l .inv .3) (d .ensures .0))
+    let d = c .before .before .before .before .list-word in (
+      omega (arith, c .before .before .before .before .before .before .before .loop-test .taken),
+      d .ensures .1,
+      omega (arith, l .inv .2, d .kept .1 .1 .1 .1 .1 .0),
+      listed-more _ (headerOf (s .args .h)) (s .pre .0) (l .w) _ _ _ (l .k) (d .result) (l .inv .3)
+          (d .ensures .0),
+    )
 
 same-length : tie.Need-same-length Inv-loop μ-loop
 same-length c = search needs

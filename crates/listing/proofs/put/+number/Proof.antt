@@ -94,7 +94,15 @@ number-character-requires-2 : (t : ℕ) → number-lts.Need-character-requires-2
   number-below t,
   number.Post,
 ) (number-at t) number.Post
-number-character-requires-2 t c κs = let s = c .before .before .before .before .before .before .before in omega (arith, s .pre .1, c .before .before .before .number .kept .0, c .before .before .before .number .ensures, decimal-longer (s .args .x) (c .before .before .before .before .before .if1 .left))
+number-character-requires-2 t c κs =
+    let s = c .before .before .before .before .before .before .before in
+    omega (
+      arith,
+      s .pre .1,
+      c .before .before .before .number .kept .0,
+      c .before .before .before .number .ensures,
+      decimal-longer (s .args .x) (c .before .before .before .before .before .if1 .left),
+    )
 
 number-same-length-2 : (t : ℕ) → number-lts.Need-same-length-2 (
   character-reads.Asked,
@@ -110,7 +118,9 @@ number-returns-2 : (t : ℕ) → number-lts.Need-returns-2 (
   number-below t,
   number.Post,
 ) (number-at t) number.Post
-number-returns-2 t c = same-text (sym (decimal-more _ (c .before .before .before .before .before .before .before .before .if1 .left))) (then (c .before .before .before .before .before .before .number .ensures) (c .before .before .character2 .ensures))
+number-returns-2 t c =
+    same-text (sym (decimal-more _ (c .before .before .before .before .before .before .before .before .if1 .left)))
+    (then (c .before .before .before .before .before .before .number .ensures) (c .before .before .character2 .ensures))
 
 pub +number-spec : {M : Type 1} → statement M
 +number-spec = close μ-number λ t. number-lts.spec (

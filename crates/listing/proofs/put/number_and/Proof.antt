@@ -12,7 +12,13 @@ number-requires c κs = omega (arith, word-long (c .before .before .args .x) (c 
 character-requires : tie.Need-character-requires
 character-requires c κs =
     let s = c .before .before .before .before .before .before in
-    omega (arith, s .pre, c .before .before .before .number .kept .0, c .before .before .before .number .ensures .ends, word-long (s .args .x) (s .fits .x .fits))
+    omega (
+      arith,
+      s .pre,
+      c .before .before .before .number .kept .0,
+      c .before .before .before .number .ensures .ends,
+      word-long (s .args .x) (s .fits .x .fits),
+    )
 
 same-length : tie.Need-same-length
 same-length c = search needs

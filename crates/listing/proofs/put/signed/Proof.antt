@@ -33,7 +33,14 @@ number-requires : tie.Need-number-requires
 number-requires c κs =
     let s = c .before .before .before .before .before .before .before in
     let h = c .before .before .before .character in
-    omega (arith, s .pre, h .kept .0, h .ensures .ends, ap length (minus (s .args .x) (s .fits .x) (c .before .before .before .before .before .if1 .taken) .text))
+    omega (
+      arith,
+      s .pre,
+      h .kept .0,
+      h .ensures .ends,
+      ap length
+          (minus (s .args .x) (s .fits .x) (c .before .before .before .before .before .if1 .taken) .text),
+    )
 
 same-length : tie.Need-same-length
 same-length c = search needs

@@ -35,7 +35,8 @@ mul-result c =
 returns : tie.Need-returns
 returns c =
     let a = c .before .before .before .before .before .before .args in
-    symbol-is (a .edges .now) _ _ _ _ _ _ (c .before .before .before .before .level-of .ensures) (c .before .before .before .hard-bit .ensures .0) (c .before .before .magnitude .ensures)
+    symbol-is (a .edges .now) _ _ _ _ _ _ (c .before .before .before .before .level-of .ensures) (c .before .before .before .hard-bit .ensures .0)
+    (c .before .before .magnitude .ensures)
     (c .before .count .ensures .0) (c .heard .ensures .0)
 
 pub symbol-spec : {M : Type 1} → statement M

@@ -13,7 +13,8 @@ use Rattle.quantiser.proofs.samples.write.Statement.{statement}
 use Rattle.quantiser.proofs.samples.write.Tie as tie
 
 abbrev Inv-loop : tie.InvT-loop
-Inv-loop edges kinds levels symbols₀ i₀ symbols i = (i ≤ length kinds) × (length symbols ≡ length symbols₀) × (symbols ≡ paste symbols₀ 0 (quantised edges kinds levels) i)
+Inv-loop edges kinds levels symbols₀ i₀ symbols i =
+    (i ≤ length kinds) × (length symbols ≡ length symbols₀) × (symbols ≡ paste symbols₀ 0 (quantised edges kinds levels) i)
 
 abbrev μ-loop : tie.MeasureT-loop
 μ-loop edges kinds levels symbols₀ i₀ symbols i = length kinds - i
@@ -56,7 +57,8 @@ loop-again c =
     let told = c .symbol .ensures ∙ ap (Samples·symbol es) (c .before .sample-of .ensures) ∙ sym (quantised-at es ks xs (l .i) (p .1) (omega arith)) in (
       omega arith,
       simp length-set (l .inv .1),
-      copied-more (a .symbols .now) 0 (quantised es ks xs) (l .i) (l .i) (omega arith) (l .symbols) (l .inv .2) _ (omega arith) (omega (arith, length-quantised es ks xs (p .1))) told,
+      copied-more (a .symbols .now) 0 (quantised es ks xs) (l .i) (l .i) (omega arith) (l .symbols) (l .inv .2) _ (omega arith)
+          (omega (arith, length-quantised es ks xs (p .1))) told,
     )
 
 same-length : tie.Need-same-length Inv-loop μ-loop

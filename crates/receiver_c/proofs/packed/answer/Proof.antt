@@ -33,10 +33,18 @@ raised-requires : tie.Need-raised-requires
 raised-requires c κs = search needs
 
 mul-result-2 : tie.Need-mul-result-2
-mul-result-2 c = omega (arith, c .raised .ensures, same-margin (c .before .args .margin) (c .before .fits .margin), margin-lt (c .before .args .margin) (c .before .pre .1))
+mul-result-2 c =
+    omega (arith, c .raised .ensures, same-margin (c .before .args .margin) (c .before .fits .margin), margin-lt (c .before .args .margin) (c .before .pre .1))
 
 add-result-2 : tie.Need-add-result-2
-add-result-2 c = omega (arith, c .before .pre .0, c .raised .ensures, same-margin (c .before .args .margin) (c .before .fits .margin), margin-lt (c .before .args .margin) (c .before .pre .1))
+add-result-2 c =
+    omega (
+      arith,
+      c .before .pre .0,
+      c .raised .ensures,
+      same-margin (c .before .args .margin) (c .before .fits .margin),
+      margin-lt (c .before .args .margin) (c .before .pre .1),
+    )
 
 returns : tie.Need-returns
 returns c = omega (arith, c .raised .ensures, same-margin (c .before .args .margin) (c .before .fits .margin))
