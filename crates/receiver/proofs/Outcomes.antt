@@ -1,7 +1,7 @@
 -- What the search's picks and outcomes stand for, turn by turn. Assumes nothing.
 use Prim.Native.Nat.{ℕ, _+_, _-_, _^_, _≤_, _<_}
 use native.Mathlib.Omega.{arith}
-use mathlib.Core.Path.{_≡_, refl, ap, sym, _∙_, subst}
+use mathlib.Core.Path.{_≡_, refl, ap, sym, _∙_}
 use mathlib.Core.Bool.{Bool, true, false, cond}
 use mathlib.Core.List.{List}
 use mathlib.Core.Option.{Option, none, some, Option·map}
@@ -62,7 +62,8 @@ module _ (p : ℕ) (ss : List ℕ) where
 
   -- ---- the turns of the search
 
-  module _ (code : Code) (n j : ℕ) (best k : Pick) (more : j < n) (result : pickOf p ss k ≡ Option·map (candidate code p ss j) (tried code p ss j)) {all : Answer}
+  module _ (code : Code) (n j : ℕ) (best k : Pick) (more : j < n)
+      (result : pickOf p ss k ≡ Option·map (candidate code p ss j) (tried code p ss j)) {all : Answer}
       (old : searchFrom code p ss (n - j) j (pickOf p ss best) ≡ all) where
     -- a candidate that ends the search, ..
     turn-sure : k .flips .found ≡ true → k .sum ≤ k .allowed → outcomeOf p ss (record { sure = true; tries = j + 1; pick = k }) ≡ all
@@ -91,7 +92,7 @@ module _ (p : ℕ) (ss : List ℕ) where
   turn-end code n j best e old =
       outcome-settled j best ∙ ap (λ (k : ℕ). settled k (pickOf p ss best)) (sym e) ∙ sym (step-end code p ss n j (pickOf p ss best) e) ∙ old
 
-no-bool : {A : Type 0} → true ≡ false → A
+pub no-bool : {A : Type 0} → true ≡ false → A
 no-bool e = absurd (let z : _≡_ {A = ℕ} 0 1 = cc in omega arith)
 
 -- ---- outcomes, try by try
@@ -144,7 +145,8 @@ module _ (code : Code) (p : ℕ) (ss : List ℕ) where
     tried-judged = go (leb (w .sum) A) refl (nearerPick (o .pick) (w .sum)) refl
       where
         go : (x : Bool) → leb (w .sum) A ≡ x → (y : Bool) → nearerPick (o .pick) (w .sum) ≡ y
-            → Tried code p ss (cond x (record { sure = true; tries = o .tries; pick = pickBy A o w f }) (cond y (record { sure = false; tries = o .tries; pick = pickBy A o w f }) o))
+            → Tried code p ss (cond x (record { sure = true; tries = o .tries; pick = pickBy A o w f })
+            (cond y (record { sure = false; tries = o .tries; pick = pickBy A o w f }) o))
         go true e y g =
             record {
               sound = new;
@@ -175,7 +177,8 @@ pub judged-tries : (A : ℕ) (o : Outcome) (w : Weight) (f : Flips) → judgedBy
 unfolding judgedBy
 judged-tries A o w f = go (leb (w .sum) A) (nearerPick (o .pick) (w .sum))
   where
-    go : (x y : Bool) → (cond x (record { sure = true; tries = o .tries; pick = pickBy A o w f }) (cond y (record { sure = false; tries = o .tries; pick = pickBy A o w f }) o)) .tries ≡ o .tries
+    go : (x y : Bool) → (cond x (record { sure = true; tries = o .tries; pick = pickBy A o w f })
+        (cond y (record { sure = false; tries = o .tries; pick = pickBy A o w f }) o)) .tries ≡ o .tries
     go true y = refl
     go false true = refl
     go false false = refl

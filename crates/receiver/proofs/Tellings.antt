@@ -19,8 +19,10 @@ told-answer p ss old o = go (o .pick .flips .found) (o .sure)
   where
     go : (b c : Bool) → softOf (cond b (cond c (Sure (o .pick .sum) (subℕ (o .pick .allowed) (o .pick .sum)) (o .pick .q) (o .pick .place) (o .tries))
         (Fair (o .pick .sum) (subℕ (o .pick .allowed) (o .pick .sum)) (o .pick .q) (o .pick .place) (o .tries))) (Lost (o .tries)))
-        (softWritten (cond b (cond c (answer sure (o .tries) (candidateOf p ss (o .pick))) (answer fair (o .tries) (candidateOf p ss (o .pick)))) (lostAnswer (o .tries))) old)
-        ≡ inr (cond b (cond c (answer sure (o .tries) (candidateOf p ss (o .pick))) (answer fair (o .tries) (candidateOf p ss (o .pick)))) (lostAnswer (o .tries)))
+        (softWritten (cond b (cond c (answer sure (o .tries) (candidateOf p ss (o .pick))) (answer fair (o .tries) (candidateOf p ss (o .pick))))
+        (lostAnswer (o .tries))) old)
+        ≡ inr (cond b (cond c (answer sure (o .tries) (candidateOf p ss (o .pick))) (answer fair (o .tries) (candidateOf p ss (o .pick))))
+        (lostAnswer (o .tries)))
     go true true = refl
     go true false = refl
     go false c = refl

@@ -1,7 +1,7 @@
 -- A turn of the search: from the outcome so far and what the next tries locate, the outcome after them. Assumes nothing.
-use Prim.Native.Nat.{ℕ, _+_, _-_, _*_, _^_, _≤_, _<_}
+use Prim.Native.Nat.{ℕ, _-_, _^_, _≤_, _<_}
 use native.Mathlib.Omega.{arith}
-use mathlib.Core.Path.{_≡_, ap, sym, _∙_, subst}
+use mathlib.Core.Path.{_≡_, sym, _∙_, subst}
 use mathlib.Core.Bool.{true, false}
 use mathlib.Core.List.{List}
 use mathlib.Core.Option.{Option, none, Option·map}
@@ -15,7 +15,7 @@ use Rattle.bch.proofs.logarithms.LogLocator.{locateIn}
 use Rattle.bch.proofs.tables.Placing.{positions, Placed}
 use Rattle.bch.proofs.logarithms.Seeking.{Next}
 use Rattle.bch.proofs.codes.Settings.{Lawful}
-use Rattle.chase.specs.Soft.{hardBits, reliabilities, candidate, tried, searchFrom, softStage}
+use Rattle.chase.specs.Soft.{hardBits, reliabilities, candidate, tried}
 use Rattle.chase.specs.Word.{test}
 use Rattle.chase.proofs.ranking.Allowances.{weighed}
 use Rattle.chase.proofs.test_words.Doublings.{Holds}
@@ -73,8 +73,11 @@ module _ (c : refusal.Code) (ts ss ks : List ℕ) (p : ℕ) (sums weights : List
     -- nothing is located
     pub turn-missed : f .found ≡ false → Tried (codeOf c) p ss (record { sure = o .sure; tries = tries; pick = o .pick }) × (tries ≡ length sums)
     turn-missed z =
-        let (all, none-there) = next .ended z in
-        (tried-missed (codeOf c) p ss o unsure t tries (next .least) (omega (arith, tests .most)) (λ i l u. missed i (omega arith) (none-there i l (omega arith))), all)
+        let (all, none-there) = next .ended z in (
+          tried-missed (codeOf c) p ss o unsure t tries (next .least) (omega (arith, tests .most))
+              (λ i l u. missed i (omega arith) (none-there i l (omega arith))),
+          all,
+        )
 
     module _ (found : f .found ≡ true) (three : length (f .at) ≡ 3) (few : f .count ≤ 3) where
       abbrev j : ℕ
@@ -124,7 +127,8 @@ module _ (c : refusal.Code) (ts ss ks : List ℕ) (p : ℕ) (sums weights : List
             ∙ sym (try-some (c .m) (c .t) (c .n) lawful ts (ready .filled .tables) ss ks p (ready .deep) (ready .long) j (getD sums j 0)
             (tests .are-sums j j-lt) (f .found) (f .count) (f .at) (next .there found .2) found (w .q) (w .sum) A weighs (λ i. A))
 
-        pub turn-judged : Tried (codeOf c) p ss (judgedBy (weighed (take (designDistance (codeOf c) - w .q) ks)) (record { sure = o .sure; tries = tries; pick = o .pick }) w f)
+        pub turn-judged : Tried (codeOf c) p ss (judgedBy (weighed (take (designDistance (codeOf c) - w .q) ks))
+            (record { sure = o .sure; tries = tries; pick = o .pick }) w f)
         turn-judged =
             let (more, gone, _) = next .there found in
             let e = skip (codeOf c) p ss (2 ^ p) (j - o .tries) (o .tries) j (pickOf p ss (o .pick)) (omega arith) (omega (arith, tests .most, next .most))

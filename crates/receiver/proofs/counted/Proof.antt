@@ -36,15 +36,24 @@ returns c = sym (ap (λ (x : Soft). countedAnswer (totalsTold (c .before .before
 
 returns-2 : tie.Need-returns-2
 unfolding softOf lostAnswer countedAnswer
-returns-2 c = c .add .ensures ∙ sym (ap (λ (x : Soft). countedAnswer (totalsTold (c .before .before .before .before .args .totals)) (softOf x [])) (c .before .before .answer .given .1))
+returns-2 c =
+    c .add .ensures
+    ∙ sym (ap (λ (x : Soft). countedAnswer (totalsTold (c .before .before .before .before .args .totals)) (softOf x []))
+    (c .before .before .answer .given .1))
 
 returns-3 : tie.Need-returns-3
 unfolding softOf lostAnswer countedAnswer
-returns-3 c = c .add2 .ensures ∙ sym (ap (λ (x : Soft). countedAnswer (totalsTold (c .before .before .before .before .args .totals)) (softOf x [])) (c .before .before .answer2 .given .1))
+returns-3 c =
+    c .add2 .ensures
+    ∙ sym (ap (λ (x : Soft). countedAnswer (totalsTold (c .before .before .before .before .args .totals)) (softOf x []))
+    (c .before .before .answer2 .given .1))
 
 returns-4 : tie.Need-returns-4
 unfolding softOf lostAnswer countedAnswer
-returns-4 c = c .add3 .ensures ∙ sym (ap (λ (x : Soft). countedAnswer (totalsTold (c .before .before .before .before .args .totals)) (softOf x [])) (c .before .before .answer3 .given .1))
+returns-4 c =
+    c .add3 .ensures
+    ∙ sym (ap (λ (x : Soft). countedAnswer (totalsTold (c .before .before .before .before .args .totals)) (softOf x []))
+    (c .before .before .answer3 .given .1))
 
 pub counted-spec : {M : Type 1} → statement M
 counted-spec =

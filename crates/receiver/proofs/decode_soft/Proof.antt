@@ -1,5 +1,5 @@
 -- The settings' refusal, or the answer of the code that they name. Assumes nothing.
-use mathlib.Core.Path.{_≡_, refl, ap, sym, _∙_, subst}
+use mathlib.Core.Path.{refl, ap, sym, _∙_, subst}
 use mathlib.Core.Option.{Option}
 use lib.ListN.{length}
 use Rattle.bch.specs.Code.{code}

@@ -1,5 +1,5 @@
 -- Each refusal, and their absence, is that of the definition. Assumes nothing.
-use Prim.Native.Nat.{ℕ, _-_, _*_, _≤_}
+use Prim.Native.Nat.{ℕ, _*_, _≤_}
 use native.Mathlib.Omega.{arith}
 use mathlib.Core.Path.{_≡_, ap, sym, _∙_}
 use borrow.Author.Tests.{le-leb, lt-leb, eq-eqb, ne-eqb}
@@ -71,7 +71,8 @@ unfolding wordsCheck
 returns-3 c =
     let a = c .before .before .before .before .before .before .before .args in
     let e = ap (λ (x : ℕ). a .words * x) (c .before .before .before .before .length .ensures) in
-    let f = as-long (c .before .before .before .before .before .before .before) (c .before .before .message-length .result) (c .before .before .message-length .ensures) in
+    let f = as-long (c .before .before .before .before .before .before .before) (c .before .before .message-length .result)
+    (c .before .before .message-length .ensures) in
     c .refuse3 .ensures ∙ sym
     (simp (
       le-leb (a .p) 6 (c .before .before .before .before .before .if1 .left),
@@ -87,7 +88,8 @@ unfolding wordsCheck
 returns-4 c =
     let a = c .before .before .before .before .before .before .before .before .args in
     let e = ap (λ (x : ℕ). a .words * x) (c .before .before .before .before .before .length .ensures) in
-    let f = as-long (c .before .before .before .before .before .before .before .before) (c .before .before .before .message-length .result) (c .before .before .before .message-length .ensures) in
+    let f = as-long (c .before .before .before .before .before .before .before .before) (c .before .before .before .message-length .result)
+    (c .before .before .before .message-length .ensures) in
     c .refuse4 .ensures ∙ sym
     (simp (
       le-leb (a .p) 6 (c .before .before .before .before .before .before .if1 .left),
@@ -104,7 +106,8 @@ unfolding wordsCheck symbolBytes
 returns-5 c =
     let a = c .before .before .before .before .before .before .before .before .args in
     let e = ap (λ (x : ℕ). a .words * x) (c .before .before .before .before .before .length .ensures) in
-    let f = as-long (c .before .before .before .before .before .before .before .before) (c .before .before .before .message-length .result) (c .before .before .before .message-length .ensures) in
+    let f = as-long (c .before .before .before .before .before .before .before .before) (c .before .before .before .message-length .result)
+    (c .before .before .before .message-length .ensures) in
     c .at-most .ensures ∙ sym
     (simp (
       le-leb (a .p) 6 (c .before .before .before .before .before .before .if1 .left),

@@ -11,7 +11,8 @@ use Rattle.receiver.proofs.all_words.clear.Statement.{statement}
 use Rattle.receiver.proofs.all_words.clear.Tie as tie
 
 abbrev Inv-loop : tie.InvT-loop
-Inv-loop message₀ i₀ message i = (i ≤ length message₀) × (length message ≡ length message₀) × (message ≡ paste message₀ 0 (replicate (length message₀) 0) i)
+Inv-loop message₀ i₀ message i =
+    (i ≤ length message₀) × (length message ≡ length message₀) × (message ≡ paste message₀ 0 (replicate (length message₀) 0) i)
 
 abbrev μ-loop : tie.MeasureT-loop
 μ-loop message₀ i₀ message i = length message₀ - i
@@ -35,7 +36,8 @@ loop-again c =
     let n = length (a .message .now) in (
       omega arith,
       simp length-set (l .inv .1),
-      copied-more (a .message .now) 0 (replicate n 0) (l .i) (l .i) (omega arith) (l .message) (l .inv .2) 0 (omega arith) (omega (arith, length-replicate {A = ℕ} n 0)) (sym (zeros n (l .i))),
+      copied-more (a .message .now) 0 (replicate n 0) (l .i) (l .i) (omega arith) (l .message) (l .inv .2) 0 (omega arith)
+          (omega (arith, length-replicate {A = ℕ} n 0)) (sym (zeros n (l .i))),
     )
 
 same-length : tie.Need-same-length Inv-loop μ-loop
@@ -46,7 +48,8 @@ returns c =
     let l = c .before .loop in
     let a = c .before .before .args in
     let n = length (a .message .now) in
-    copied-end (a .message .now) 0 (replicate n 0) (l .i) (l .i) (omega arith) (l .message) (l .inv .2) (omega (arith, length-replicate {A = ℕ} n 0)) (omega arith)
+    copied-end (a .message .now) 0 (replicate n 0) (l .i) (l .i) (omega arith) (l .message) (l .inv .2)
+    (omega (arith, length-replicate {A = ℕ} n 0)) (omega arith)
 
 pub clear-spec : {M : Type 1} → statement M
 clear-spec =

@@ -61,7 +61,8 @@ returns-2 c =
     let a = s .args in
     let b = codeOf (a .c) in
     let all : ℕ → List Answer = λ W. answersTo b (a .p) W (a .symbols .now) in
-    let passed = sym (c .before .before .before .before .before .before .before .before .before .check .ensures) ∙ ap checked (c .before .before .before .before .before .before .before .enum-told .given .1) in
+    let passed = sym (c .before .before .before .before .before .before .before .before .before .check .ensures)
+    ∙ ap checked (c .before .before .before .before .before .before .before .enum-told .given .1) in
     let e = words-checked b (a .p) (a .words) (a .symbols .now) (a .messages .now) (a .marks .now) passed .marks-room in
     let d = c .before .before .before .before .decode-with .ensures in (
       ap inr (d .0 ∙ ap (λ (W : ℕ). totalsOf (all W)) e) ∙ answered-none _ (totalsOf (all (a .words))) passed,

@@ -1,9 +1,9 @@
 -- The words so far are answered. Assumes nothing.
-use Prim.Native.Nat.{ℕ, suc, _+_, _-_, _*_, _^_, _≤_, _<_}
+use Prim.Native.Nat.{ℕ, suc, _+_, _-_, _*_, _≤_, _<_}
 use native.Mathlib.Nat.{suc-mul, zero-mul, mul-le-mul-right}
 use native.Mathlib.Numerals.{add-one}
 use native.Mathlib.Omega.{arith}
-use mathlib.Core.Path.{_≡_, refl, ap, ap₂, sym, _∙_}
+use mathlib.Core.Path.{_≡_, refl, ap, ap₂, sym, subst, _∙_}
 use mathlib.Core.List.{List}
 use lib.ListN.{length, take, drop, length-take, length-drop, length-set}
 use lib.Pow.{pow-mono}
@@ -17,7 +17,10 @@ use Rattle.take_format.proofs.takes.Batches.{words-small, Few, few-more, few-ca
 use Rattle.take_format.proofs.takes.PromiseLaws.{message-long, tries-most}
 use Rattle.refusal.specs.Named.{codeOf}
 use Rattle.receiver.specs.Answer.{totalsTold}
+use mir.Syntax.{w64}
+use mir.Val.{Fits}
 use borrow.Author.Needs.{needs}
+use Rattle.receiver.proofs.Places.{falls}
 use Rattle.receiver.proofs.all_words.decode_all.Statement.{statement}
 use Rattle.receiver.proofs.all_words.decode_all.Tie as tie
 
@@ -45,6 +48,44 @@ same-part w n at size xs e f =
 -- one part more
 more : (w n at size : ℕ) → size ≡ n → at ≡ w * n → at + size ≡ (w + 1) * n
 more w n at size e f = omega (arith, e, f, ap (λ (x : ℕ). x * n) (add-one w), suc-mul w n)
+
+-- ---- of numbers: a part of n from `at` on, where word w's begins at x and is N long
+
+ends : (at n x N L : ℕ) → at ≡ x → n ≡ N → x + N ≤ L → at + n ≤ L
+ends at n x N L e f h = omega arith
+
+end-fits : (at n L : ℕ) → at + n ≤ L → L ≤ 67042305 → Fits w64 (at + n)
+end-fits at n L h most = record { fits = omega arith }
+
+starts : (at n : ℕ) → at ≤ at + n
+starts at n = omega arith
+
+part-size : (at n : ℕ) → at + n - at ≡ n
+part-size at n = omega arith
+
+part-long : (at n L : ℕ) (xs : List ℕ) → length xs ≡ L → at + n ≤ L → length (take (at + n - at) (drop at xs)) ≡ n
+part-long at n L xs e h = omega (arith, length-take (at + n - at) (drop at xs), length-drop at xs)
+
+word-fits : (w W : ℕ) → w < W → W ≤ 65535 → Fits w64 (w + 1)
+word-fits w W h most = record { fits = omega arith }
+
+words-few : (w W : ℕ) → w < W → W ≤ 65535 → w + 1 ≤ 65536
+words-few w W h most = omega arith
+
+checked : (n r k : ℕ) → n ≡ r + k → r ≤ n
+checked n r k e = omega arith
+
+at-most : (t x k : ℕ) → t ≡ x → x ≤ k → k ≤ 64 → t ≤ 64
+at-most t x k e h most = omega arith
+
+begins : (to x N L M : ℕ) → to ≡ x → M ≡ L → x + N ≤ L → to ≤ M
+begins to x N L M e f h = omega arith
+
+all-done : (w n W : ℕ) → n ≡ W → n ≤ w → w ≤ W → w ≡ W
+all-done w n W e h most = omega arith
+
+next-word : (w W : ℕ) → w < W → w + 1 ≤ W
+next-word w W h = omega arith
 
 module _ (s : tie.Start Inv-loop μ-loop) where
   -- its code, how long its messages are, and how many words there are
@@ -90,6 +131,34 @@ module _ (s : tie.Start Inv-loop μ-loop) where
   word-symbols : (at n : ℕ) → Symbols (take n (drop at xs))
   word-symbols at n = below-take 32 n (drop at xs) (below-drop 32 at xs (s .pre .1 .are-symbols))
 
+-- at the loop's test, where word w is there
+module _ (o : tie.In-loop Inv-loop μ-loop) where
+  word-here : o .before .loop .w < length (o .before .before .before .before .before .before .before .before .before .args .marks .now)
+  word-here = subst (λ (n : ℕ). o .before .loop .w < n) (o .before .loop .inv .5) (o .loop-test .taken)
+
+  symbols-end : o .before .loop .at + o .before .before .before .length .result
+      ≤ length (o .before .before .before .before .before .before .before .before .before .args .symbols .now)
+  symbols-end =
+      let s = o .before .before .before .before .before .before .before .before .before in
+      ends _ _ _ _ _ (o .before .loop .inv .1) (o .before .before .before .length .ensures) (inside s (o .before .loop .w) word-here .0)
+
+  symbols-fit : Fits w64 (o .before .loop .at + o .before .before .before .length .result)
+  symbols-fit =
+      let s = o .before .before .before .before .before .before .before .before .before in
+      end-fits _ _ _ symbols-end (inside s (o .before .loop .w) word-here .1)
+
+  messages-end : o .before .loop .to + o .before .before .message-length .result
+      ≤ length (o .before .before .before .before .before .before .before .before .before .args .messages .now)
+  messages-end =
+      let s = o .before .before .before .before .before .before .before .before .before in
+      let k = is-long s _ (o .before .before .message-length .ensures) in
+      ends _ _ _ _ _ (o .before .loop .inv .2) k (inside s (o .before .loop .w) word-here .2)
+
+  messages-fit : Fits w64 (o .before .loop .to + o .before .before .message-length .result)
+  messages-fit =
+      let s = o .before .before .before .before .before .before .before .before .before in
+      end-fits _ _ _ messages-end (inside s (o .before .loop .w) word-here .3)
+
 length-requires : tie.Need-length-requires Inv-loop μ-loop
 length-requires c κs = search needs
 
@@ -111,163 +180,125 @@ loop-holds c =
     )
 
 add-decode-word : tie.Need-add-decode-word Inv-loop μ-loop
-add-decode-word c =
-    let s = c .before .before .before .before .before .before .before .before .before in
-    let a = s .args in
-    let l = c .before .loop in
-    let i = inside s (l .w) (here s (l .w) (l .marks) (l .inv .5) (c .loop-test .taken)) in
-    omega (arith, l .inv .1, c .before .before .before .length .ensures, i .0, i .1)
+add-decode-word c = symbols-fit c
 
 sub-decode-word : tie.Need-sub-decode-word Inv-loop μ-loop
-sub-decode-word c = omega arith
+sub-decode-word c = starts _ _
 
 part-decode-word-start : tie.Need-part-decode-word-start Inv-loop μ-loop
-part-decode-word-start c = omega arith
+part-decode-word-start c = starts _ _
 
 part-decode-word-end : tie.Need-part-decode-word-end Inv-loop μ-loop
-part-decode-word-end c =
-    let s = c .before .before .before .before .before .before .before .before .before in
-    let a = s .args in
-    let l = c .before .loop in
-    let i = inside s (l .w) (here s (l .w) (l .marks) (l .inv .5) (c .loop-test .taken)) in
-    omega (arith, l .inv .1, c .before .before .before .length .ensures, i .0)
+part-decode-word-end c = symbols-end c
 
 add-decode-word-2 : tie.Need-add-decode-word-2 Inv-loop μ-loop
-add-decode-word-2 c =
-    let s = c .before .before .before .before .before .before .before .before .before .before .before in
-    let a = s .args in
-    let l = c .before .before .before .loop in
-    let i = inside s (l .w) (here s (l .w) (l .marks) (l .inv .5) (c .before .before .loop-test .taken)) in
-    omega (arith, l .inv .2, is-long s _ (c .before .before .before .before .message-length .ensures), i .2, i .3)
+add-decode-word-2 c = messages-fit (c .before .before)
 
 sub-decode-word-2 : tie.Need-sub-decode-word-2 Inv-loop μ-loop
-sub-decode-word-2 c = omega arith
+sub-decode-word-2 c = starts _ _
 
 part-decode-word-start-2 : tie.Need-part-decode-word-start-2 Inv-loop μ-loop
-part-decode-word-start-2 c = omega arith
+part-decode-word-start-2 c = starts _ _
 
 part-decode-word-end-2 : tie.Need-part-decode-word-end-2 Inv-loop μ-loop
 part-decode-word-end-2 c =
-    let s = c .before .before .before .before .before .before .before .before .before .before .before in
-    let a = s .args in
-    let l = c .before .before .before .loop in
-    let i = inside s (l .w) (here s (l .w) (l .marks) (l .inv .5) (c .before .before .loop-test .taken)) in
-    omega (arith, l .inv .2, l .inv .4, is-long s _ (c .before .before .before .before .message-length .ensures), i .2)
+    let o = c .before .before in
+    subst (λ (n : ℕ). o .before .loop .to + o .before .before .message-length .result ≤ n) (sym (o .before .loop .inv .4)) (messages-end o)
 
 decode-word-requires : tie.Need-decode-word-requires Inv-loop μ-loop
 decode-word-requires c κs =
-    let s = c .before .before .before .before .before .before .before .before .before .before .before .before in
-    let a = s .args in
-    let l = c .before .before .before .before .loop in
-    let i = inside s (l .w) (here s (l .w) (l .marks) (l .inv .5) (c .before .before .before .loop-test .taken)) in
-    let h = here s (l .w) (l .marks) (l .inv .5) (c .before .before .before .loop-test .taken) in
-    let n = c .before .before .before .before .before .before .length in
-    let k = c .before .before .before .before .before .message-length in (
-      (
-        s .pre .0 .0,
-        s .pre .1 .depth,
-        word-long s (l .w) (l .at) (n .result) h (n .ensures) (l .inv .1),
-        l .inv .3,
-        word-symbols s (l .at) (l .at + n .result - l .at),
-      ),
-      omega (
-        arith,
-        l .inv .2,
-        l .inv .4,
-        k .ensures,
-        is-long s _ (k .ensures),
-        i .2,
-        length-take (l .to + k .result - l .to) (drop (l .to) (l .messages)),
-        length-drop (l .to) (l .messages),
-      ),
+    let o = c .before .before .before in
+    let s = o .before .before .before .before .before .before .before .before .before in
+    let l = o .before .loop in
+    let n = o .before .before .before .length in
+    let k = o .before .before .message-length in
+    let full = word-long s (l .w) (l .at) (n .result) (word-here o) (n .ensures) (l .inv .1) in (
+      (s .pre .0 .0, s .pre .1 .depth, full, l .inv .3, word-symbols s (l .at) (l .at + n .result - l .at)),
+      part-long (l .to) (k .result) _ (l .messages) (l .inv .4) (messages-end o) ∙ k .ensures,
     )
 
 mark-of-requires : tie.Need-mark-of-requires Inv-loop μ-loop
 mark-of-requires c κs = search needs
 
 slice-write-marks : tie.Need-slice-write-marks Inv-loop μ-loop
-slice-write-marks c = omega (arith, c .before .before .before .before .before .before .before .before .before .loop-test .taken)
+slice-write-marks c = c .before .before .before .before .before .before .before .before .before .loop-test .taken
 
 add-requires : tie.Need-add-requires Inv-loop μ-loop
 add-requires c κs = search needs
 
 add-at : tie.Need-add-at Inv-loop μ-loop
-add-at c =
-    let s = c .before .before .before .before .before .before .before .before .before .before .before .before .before .before .before .before .before .before .before in
-    let a = s .args in
-    let l = c .before .before .before .before .before .before .before .before .before .before .before .loop in
-    let i = inside s (l .w) (here s (l .w) (l .marks) (l .inv .5) (c .before .before .before .before .before .before .before .before .before .before .loop-test .taken)) in
-    omega (arith, l .inv .1, c .before .before .before .before .before .before .before .before .before .before .before .before .before .length .ensures, i .0, i .1)
+add-at c = symbols-fit (c .before .before .before .before .before .before .before .before .before .before)
 
 add-to : tie.Need-add-to Inv-loop μ-loop
-add-to c =
-    let s = c .before .before .before .before .before .before .before .before .before .before .before .before .before .before .before .before .before .before .before in
-    let a = s .args in
-    let l = c .before .before .before .before .before .before .before .before .before .before .before .loop in
-    let i = inside s (l .w) (here s (l .w) (l .marks) (l .inv .5) (c .before .before .before .before .before .before .before .before .before .before .loop-test .taken)) in
-    omega (arith, l .inv .2, is-long s _ (c .before .before .before .before .before .before .before .before .before .before .before .before .message-length .ensures), i .2, i .3)
+add-to c = messages-fit (c .before .before .before .before .before .before .before .before .before .before)
 
 add-w : tie.Need-add-w Inv-loop μ-loop
-add-w c = let s = c .before .before .before .before .before .before .before .before .before .before .before .before .before .before .before .before .before .before .before in omega (arith, c .before .before .before .before .before .before .before .before .before .before .loop-test .taken, c .before .before .before .before .before .before .before .before .before .before .before .loop .inv .5, s .pre .0 .2)
+add-w c =
+    let o = c .before .before .before .before .before .before .before .before .before .before in
+    word-fits _ _ (word-here o) (o .before .before .before .before .before .before .before .before .before .pre .0 .2)
 
 loop-less : tie.Need-loop-less Inv-loop μ-loop
-loop-less c = omega (arith, c .before .before .before .before .before .before .before .before .before .before .loop-test .taken, c .before .before .before .before .before .before .before .before .before .before .before .loop .inv .5)
+loop-less c = falls _ _ (word-here (c .before .before .before .before .before .before .before .before .before .before))
 
 loop-again : tie.Need-loop-again Inv-loop μ-loop
 loop-again c =
-    let s = c .before .before .before .before .before .before .before .before .before .before .before .before .before .before .before .before .before .before .before in
+    let o = c .before .before .before .before .before .before .before .before .before .before in
+    let s = o .before .before .before .before .before .before .before .before .before in
     let a = s .args in
-    let l = c .before .before .before .before .before .before .before .before .before .before .before .loop in
-    let i = inside s (l .w) (here s (l .w) (l .marks) (l .inv .5) (c .before .before .before .before .before .before .before .before .before .before .loop-test .taken)) in
-    let h = here s (l .w) (l .marks) (l .inv .5) (c .before .before .before .before .before .before .before .before .before .before .loop-test .taken) in
-    let n = c .before .before .before .before .before .before .before .before .before .before .before .before .before .length in
-    let k = c .before .before .before .before .before .before .before .before .before .before .before .before .message-length in
+    let l = o .before .loop in
+    let h = word-here o in
+    let n = o .before .before .before .length in
+    let k = o .before .before .message-length in
     let is-k = is-long s (k .result) (k .ensures) in
     let w = c .before .before .before .before .before .before .decode-word in
     let m = c .before .mark-of in
     let b = code s in
     let made = s .pre .0 .0 .fielded .made in
-    let fits : b .m * b .t ≤ b .n = omega (arith, made .is-n) in
+    let fits = checked _ _ _ (made .is-n) in
     let e = same-part (l .w) (a .c .n) (l .at) (n .result) (xs s) (n .ensures) (l .inv .1) in
     let ss = take (l .at + n .result - l .at) (drop (l .at) (xs s)) in
     let full = word-long s (l .w) (l .at) (n .result) h (n .ensures) (l .inv .1) in
     let symbols = word-symbols s (l .at) (l .at + n .result - l .at) in
     let tried = tries-most b (made .lawful) fits (a .p) ss full symbols in
-    let most : 2 ^ a .p ≤ 64 = pow-mono (s .pre .1 .depth) in
-    let few = few-more (l .w) (totalsTold (l .totals)) (l .inv .7) (m .result) (w .result .tries) (omega (arith, w .ensures .0 .1, tried, most)) in
-    let told = c .add .ensures
-    ∙ few-capped (l .w + 1) (countedOf (totalsTold (l .totals)) (m .result) (w .result .tries)) few (omega (arith, h, s .pre .0 .2)) in
-    let written = ap length (w .ensures .1) ∙ message-long b (made .lawful) fits (a .p) ss full symbols in (
-      omega (arith, h),
+    let counted = countedOf (totalsTold (l .totals)) (m .result) (w .result .tries) in
+    let few =
+    few-more (l .w) (totalsTold (l .totals)) (l .inv .7) (m .result) (w .result .tries)
+    (at-most _ _ _ (w .ensures .0 .1) tried (pow-mono (s .pre .1 .depth))) in
+    let told : totalsTold (c .add .result) ≡ counted =
+    c .add .ensures ∙ few-capped (l .w + 1) counted few (words-few _ _ h (s .pre .0 .2)) in
+    let written = ap length (w .ensures .1) ∙ message-long b (made .lawful) fits (a .p) ss full symbols in
+    let room = inside s (l .w) h .2 in
+    let done =
+    done-more b (a .p) (xs s) (l .w) (l .messages) (l .marks) (totalsTold (l .totals)) (l .inv .6) (l .to) (m .result) (w .result .tries) _ _ (l .inv .2)
+    (begins _ _ _ _ _ (l .inv .2) (l .inv .4) room) (o .loop-test .taken)
+    (w .ensures .1 ∙ ap (λ (ss : List ℕ). message b (softStage b (a .p) ss)) e) written
+    (m .ensures ∙ w .ensures .0 .0 ∙ ap (λ (ss : List ℕ). markByte (softStage b (a .p) ss .mark)) e)
+    (w .ensures .0 .1 ∙ ap (λ (ss : List ℕ). softStage b (a .p) ss .tries) e) in (
+      next-word _ _ h,
       more (l .w) (a .c .n) (l .at) (n .result) (n .ensures) (l .inv .1),
       more (l .w) (long s) (l .to) (k .result) is-k (l .inv .2),
-      omega (arith, l .inv .3, w .kept .1 .1 .1 .1 .0),
+      w .kept .1 .1 .1 .1 .0 ∙ l .inv .3,
       omega (arith, l .inv .4, c .before .before .before .messages .given),
       simp length-set (l .inv .5),
-      rw told
-          (done-more b (a .p) (xs s) (l .w) (l .messages) (l .marks) (totalsTold (l .totals)) (l .inv .6) (l .to) (m .result) (w .result .tries) _ _ (l .inv .2)
-          (omega (arith, l .inv .2, l .inv .4, i .2)) (c .before .before .before .before .before .before .before .before .before .before .loop-test .taken)
-          (w .ensures .1 ∙ ap (λ (ss : List ℕ). message b (softStage b (a .p) ss)) e) written
-          (m .ensures ∙ w .ensures .0 .0 ∙ ap (λ (ss : List ℕ). markByte (softStage b (a .p) ss .mark)) e)
-          (w .ensures .0 .1 ∙ ap (λ (ss : List ℕ). softStage b (a .p) ss .tries) e)),
-      rw told few,
+      rw told done,
+      subst (Few (l .w + 1)) (sym told) few,
     )
 
 same-length : tie.Need-same-length Inv-loop μ-loop
 same-length c = search needs
 
 same-length-2 : tie.Need-same-length-2 Inv-loop μ-loop
-same-length-2 c = search needs
+same-length-2 c = c .before .loop .inv .4
 
 same-length-3 : tie.Need-same-length-3 Inv-loop μ-loop
-same-length-3 c = search needs
+same-length-3 c = c .before .loop .inv .5
 
 returns : tie.Need-returns Inv-loop μ-loop
 returns c =
     let s = c .before .before .before .before .before .before .before .before .before in
     let a = s .args in
     let l = c .before .loop in
-    let e : l .w ≡ words s = omega (arith, c .loop-test .left, l .inv .0, l .inv .5) in
+    let e : l .w ≡ words s = all-done _ _ _ (l .inv .5) (c .loop-test .left) (l .inv .0) in
     let d = done-end (code s) (a .p) (xs s) (l .w) (l .messages) (l .marks) _ (l .inv .6)
     (l .inv .4 ∙ s .pre .1 .messages-room ∙ ap (λ (x : ℕ). x * long s) (sym e)) (l .inv .5 ∙ sym e) in
     (rw e at (d .0), (rw e at (d .1), rw e at (d .2)))

@@ -37,22 +37,32 @@ slice-aggregate-decode-all : tie.Need-slice-aggregate-decode-all
 slice-aggregate-decode-all c = search needs
 
 array-borrow-prefix-codeword : tie.Need-array-borrow-prefix-codeword
-array-borrow-prefix-codeword c = short (c .before .before .before .before .before .before .before .before .before .before .before) (c .before .length .result) (c .before .length .ensures)
+array-borrow-prefix-codeword c =
+    short (c .before .before .before .before .before .before .before .before .before .before .before) (c .before .length .result) (c .before .length .ensures)
 
 slice-aggregate-decode-all-2 : tie.Need-slice-aggregate-decode-all-2
-slice-aggregate-decode-all-2 c = sym (part-long (c .before .before .length .result) (short (c .before .before .before .before .before .before .before .before .before .before .before .before) (c .before .before .length .result) (c .before .before .length .ensures)))
+slice-aggregate-decode-all-2 c =
+    sym (part-long (c .before .before .length .result)
+    (short (c .before .before .before .before .before .before .before .before .before .before .before .before) (c .before .before .length .result)
+    (c .before .before .length .ensures)))
 
 decode-all-requires : tie.Need-decode-all-requires
 decode-all-requires c κs =
     let s = c .before .before .before .before .before .before .before .before .before .before .before .before .before .before in
-    let n = c .before .before .before .before .length in
-    ((c .before .before .before .before .before .before .fill-roots .ensures, part-long (n .result) (short s (n .result) (n .ensures)) ∙ n .ensures, s .pre .0 .1), s .pre .1)
+    let n = c .before .before .before .before .length in (
+      (
+        c .before .before .before .before .before .before .fill-roots .ensures,
+        part-long (n .result) (short s (n .result) (n .ensures)) ∙ n .ensures,
+        s .pre .0 .1,
+      ),
+      s .pre .1,
+    )
 
 same-length : tie.Need-same-length
-same-length c = search needs
+same-length c = c .before .before .before .messages .given
 
 same-length-2 : tie.Need-same-length-2
-same-length-2 c = search needs
+same-length-2 c = c .before .marks .given
 
 returns : tie.Need-returns
 returns c = c .before .before .before .before .before .decode-all .ensures

@@ -1,8 +1,6 @@
 -- A refusal is the check's, and otherwise the answer is that of the hard stage. Assumes nothing.
-use mathlib.Core.Path.{_≡_, ap, sym, _∙_}
-use mathlib.Core.Option.{none}
+use mathlib.Core.Path.{ap, sym, _∙_}
 use lib.ListN.{length}
-use Rattle.take_format.specs.Refusal.{bitsCheck}
 use Rattle.take_format.proofs.checks.RefusalLaws.{bits-checked}
 use Rattle.take_format.proofs.checks.CallLaws.{answered-some, answered-none, buffer-some, buffer-none}
 use Rattle.refusal.specs.Checked.{checked}
@@ -49,7 +47,8 @@ unfolding checked hardOf
 returns-2 c =
     let a = c .before .before .before .before .before .before .before .before .before .before .args in
     let n = c .before .before .before .before .before .before .before .length .ensures in
-    let h = rw n at (sym (c .before .before .before .before .before .before .bits .ensures) ∙ ap checked (c .before .before .before .before .enum-told .given .1)) in
+    let h = rw n at (sym (c .before .before .before .before .before .before .bits .ensures)
+    ∙ ap checked (c .before .before .before .before .enum-told .given .1)) in
     let d = c .before .before .decode-with .ensures in
     (d .0 ∙ answered-none _ _ h, d .1 ∙ buffer-none _ _ _ h)
 

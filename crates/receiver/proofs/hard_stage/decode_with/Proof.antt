@@ -1,7 +1,6 @@
 -- There is room for the tables. Assumes nothing.
-use Prim.Native.Nat.{_+_, _*_, _^_, _≤_}
+use Prim.Native.Nat.{_^_, _≤_}
 use native.Mathlib.Omega.{arith}
-use mathlib.Core.Path.{refl}
 use lib.Pow.{pow-mono}
 use Rattle.galois.proofs.FieldTables.{zeros}
 use Rattle.receiver.proofs.hard_stage.decode_with.Statement.{statement}

@@ -32,7 +32,9 @@ shared-slice-read-where-set-2 : tie.Need-shared-slice-read-where-set-2 Inv-loop 
 shared-slice-read-where-set-2 c = let s = c .before .before .before .before .before .before in omega (arith, s .pre .0 .0 .lawful .n-most)
 
 where-set-requires : tie.Need-where-set-requires Inv-loop μ-loop
-where-set-requires c κs = let s = c .before .before .before .before .before .before in below-at 1 (s .args .bits .now) (c .before .before .before .loop .i) (s .pre .1 .1)
+where-set-requires c κs =
+    let s = c .before .before .before .before .before .before in
+    below-at 1 (s .args .bits .now) (c .before .before .before .loop .i) (s .pre .1 .1)
 
 add-i : tie.Need-add-i Inv-loop μ-loop
 add-i c = search needs

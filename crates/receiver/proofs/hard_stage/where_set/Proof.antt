@@ -1,8 +1,7 @@
 -- A bit masks all bits of x, or none. Assumes nothing.
-use Prim.Native.Nat.{ℕ, _*_, _%_, _^_, _<_}
+use Prim.Native.Nat.{ℕ, _*_, _^_, _<_}
 use native.Mathlib.Omega.{arith}
-use native.Mathlib.Nat.{mod-eq-of-lt}
-use mathlib.Core.Path.{_≡_, sym, _∙_}
+use mathlib.Core.Path.{_≡_, _∙_}
 use lib.Bits.{bitAnd, and-comm, and-mask}
 use Rattle.galois.proofs.Xor.{bit-cases}
 use Rattle.receiver.proofs.hard_stage.where_set.Statement.{statement}

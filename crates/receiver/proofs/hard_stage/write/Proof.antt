@@ -1,10 +1,8 @@
 -- Lost where nothing is found, and otherwise the bits flipped. Assumes nothing.
 use Prim.Native.Nat.{_≤_}
 use native.Mathlib.Omega.{arith}
-use mathlib.Core.Path.{_≡_, sym, ap, _∙_}
+use mathlib.Core.Path.{ap, _∙_}
 use mathlib.Core.Logic.{inr}
-use mathlib.Core.List.{List}
-use Prim.Native.Nat.{ℕ}
 use borrow.Author.Tests.{not-true, not-false}
 use lib.ListN.{length, take}
 use Rattle.bch.specs.Words.{flippedAt}
@@ -45,8 +43,11 @@ returns-2 c =
     let z = not-false _ (c .before .before .before .before .before .before .before .before .if1 .left) in
     let p = s .pre .1 .1 z in
     let room : f .count ≤ length (f .at) = omega (arith, p .few, p .long) in
-    let h = found-answer (codeOf (a .c)) (a .bits .now) (f .found) (f .count) (f .at) (s .pre .1 .0) z room (a .codeword .now) in
-    (ap inr (h .0), c .before .before .flip-at .ensures ∙ ap (flippedAt (take (f .count) (f .at))) (c .before .before .before .before .before .before .copy .ensures) ∙ h .1)
+    let h = found-answer (codeOf (a .c)) (a .bits .now) (f .found) (f .count) (f .at) (s .pre .1 .0) z room (a .codeword .now) in (
+      ap inr (h .0),
+      c .before .before .flip-at .ensures
+          ∙ ap (flippedAt (take (f .count) (f .at))) (c .before .before .before .before .before .before .copy .ensures) ∙ h .1,
+    )
 
 pub write-spec : {M : Type 1} → statement M
 write-spec = tie.close (tie.spec returns copy-requires flip-at-requires same-length returns-2)

@@ -1,4 +1,4 @@
--- This function meets its contract. Assumes nothing.
+-- Nothing is located, as the definition says. Assumes nothing.
 use native.Mathlib.Omega.{arith}
 use mathlib.Core.Path.{refl}
 use Rattle.bch.proofs.tables.Placing.{positions}

@@ -1,4 +1,4 @@
--- This function meets its contract. Assumes nothing.
+-- The one position, where it is in the word. Assumes nothing.
 use mathlib.Core.Path.{refl, _∙_}
 use native.Mathlib.Omega.{arith}
 use borrow.Author.Needs.{needs}
@@ -11,7 +11,9 @@ lost-requires : tie.Need-lost-requires
 lost-requires c κs = search needs
 
 returns : tie.Need-returns
-returns c = let a = c .before .before .before .args in (c .lost .ensures .0 ∙ one-lost (a .c .n) (a .p) (c .before .if1 .taken), c .lost .ensures .1, c .lost .ensures .2)
+returns c =
+    let a = c .before .before .before .args in
+    (c .lost .ensures .0 ∙ one-lost (a .c .n) (a .p) (c .before .if1 .taken), c .lost .ensures .1, c .lost .ensures .2)
 
 returns-2 : tie.Need-returns-2
 unfolding positions

@@ -1,5 +1,4 @@
 -- By what the two calls ensure. Assumes nothing.
-use Prim.Native.Nat.{ℕ}
 use mathlib.Core.Path.{ap, _∙_}
 use lib.Bits.{bitXor}
 use Rattle.bch.proofs.tables.CodeTables.{powersIn}

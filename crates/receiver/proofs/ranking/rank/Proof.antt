@@ -1,12 +1,15 @@
 -- The keys kept and those still to come give the least of all; a key that is not below the last kept would fall out. Assumes nothing.
-use Prim.Native.Nat.{_-_, _≤_}
+use Prim.Native.Nat.{ℕ, _+_, _-_, _*_, _%_, _≤_, _<_}
 use native.Mathlib.Omega.{arith}
 use mathlib.Core.Path.{_≡_, refl, sym, _∙_}
 use mathlib.Core.Logic.{⊎-elim}
+use mir.Syntax.{w16, w64}
+use mir.Val.{Fits}
 use borrow.Author.Needs.{needs}
 use lib.ListN.{length, getD, take, drop, replicate, getD-replicate}
 use Rattle.chase.specs.Soft.{reliabilities}
 use Rattle.chase.proofs.ranking.Keys.{kept, Rising, rising-put, rising-replicate, length-put, take-replicate, kept-in, kept-out, kept-end, kept-weakest}
+use Rattle.receiver.proofs.Places.{falls}
 use Rattle.receiver.proofs.ranking.rank.Statement.{statement}
 use Rattle.receiver.proofs.ranking.rank.Tie as tie
 
@@ -17,6 +20,20 @@ Inv-loop s size keys₀ last₀ i₀ keys last i =
 
 abbrev μ-loop : tie.MeasureT-loop
 μ-loop s size keys₀ last₀ i₀ keys last i = length s - i
+
+-- ---- a key fits: z times 1024 and a position i of n
+
+high-fits : (z x : ℕ) → z ≡ x % 16 → Fits w16 (z * 1024)
+high-fits z x e = record { fits = omega arith }
+
+place-fits : (i n : ℕ) → i < n → n ≤ 1023 → Fits w16 i
+place-fits i n h most = record { fits = omega arith }
+
+key-fits : (z x i n : ℕ) → z ≡ x % 16 → i < n → n ≤ 1023 → Fits w16 (z * 1024 + i)
+key-fits z x i n e h most = record { fits = omega arith }
+
+next-fits : (i n : ℕ) → i < n → n ≤ 1023 → Fits w64 (i + 1)
+next-fits i n h most = record { fits = omega arith }
 
 loop-holds : tie.Need-loop-holds Inv-loop μ-loop
 loop-holds c =
@@ -29,19 +46,20 @@ loop-holds c =
     )
 
 shared-slice-read-wide : tie.Need-shared-slice-read-wide Inv-loop μ-loop
-shared-slice-read-wide c = omega arith
+shared-slice-read-wide c = c .before .loop-test .taken
 
 wide-requires : tie.Need-wide-requires Inv-loop μ-loop
 wide-requires c κs = search needs
 
 mul-k : tie.Need-mul-k Inv-loop μ-loop
-mul-k c = omega arith
+mul-k c = high-fits _ _ (c .wide .ensures)
 
 cast-k : tie.Need-cast-k Inv-loop μ-loop
-cast-k c = omega arith
+cast-k c = place-fits _ _ (c .before .before .loop-test .taken) (c .before .before .before .before .before .pre .0)
 
 add-k : tie.Need-add-k Inv-loop μ-loop
-add-k c = omega arith
+add-k c =
+    key-fits _ _ _ _ (c .wide .ensures) (c .before .before .loop-test .taken) (c .before .before .before .before .before .pre .0)
 
 put-requires : tie.Need-put-requires Inv-loop μ-loop
 put-requires c κs = search needs
@@ -56,10 +74,10 @@ array-read-last : tie.Need-array-read-last Inv-loop μ-loop
 array-read-last c = omega arith
 
 add-i : tie.Need-add-i Inv-loop μ-loop
-add-i c = omega arith
+add-i c = next-fits _ _ (c .before .before .before .loop-test .taken) (c .before .before .before .before .before .before .pre .0)
 
 loop-less : tie.Need-loop-less Inv-loop μ-loop
-loop-less c = omega arith
+loop-less c = falls _ _ (c .before .before .before .loop-test .taken)
 
 loop-again : tie.Need-loop-again Inv-loop μ-loop
 loop-again c =

@@ -1,22 +1,17 @@
 -- Test word 0, and then the others. Assumes nothing.
-use Prim.Native.Nat.{ℕ, _^_, _≤_, _<_}
+use Prim.Native.Nat.{ℕ, _^_}
 use native.Mathlib.Omega.{arith}
 use mathlib.Core.Path.{_≡_, refl, ap, sym, _∙_}
-use mathlib.Core.Bool.{true, false}
 use mathlib.Core.List.{[], _∷_}
-use lib.ListN.{length}
 use lib.Pow.{pow-pos}
 use Rattle.chase.proofs.search.Ready.{sums-first, weights-first}
 use Rattle.refusal.specs.Named.{codeOf}
 use Rattle.receiver.specs.Search.{TestWords}
-use Rattle.receiver.proofs.Outcomes.{tried-none, tried-all}
+use Rattle.receiver.proofs.Outcomes.{no-bool, tried-none, tried-all}
 use Rattle.receiver.proofs.Powers.{powers-part}
 use Rattle.receiver.proofs.search.search.Statement.{statement}
 use Rattle.receiver.proofs.search.search.Tie as tie
 use borrow.Author.Needs.{needs}
-
-no-bool : {A : Type 0} → true ≡ false → A
-no-bool e = absurd (let z : _≡_ {A = ℕ} 0 1 = cc in omega arith)
 
 mul-syndromes : tie.Need-mul-syndromes
 mul-syndromes c = search needs

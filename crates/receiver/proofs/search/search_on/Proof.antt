@@ -1,11 +1,11 @@
 -- Each weak position doubles the test words, and those that are new are tried. Assumes nothing.
-use Prim.Native.Nat.{ℕ, _+_, _-_, _*_, _^_, _≤_, _<_}
+use Prim.Native.Nat.{ℕ, _+_, _-_, _*_, _%_, _^_, _≤_, _<_}
 use native.Mathlib.Nat.{pow-succ'}
 use native.Mathlib.Numerals.{add-one}
 use native.Mathlib.Omega.{arith}
-use mathlib.Core.Path.{_≡_, refl, ap, sym, _∙_}
-use mathlib.Core.Bool.{true, false}
-use lib.ListN.{length, take, set, replicate}
+use mathlib.Core.Path.{_≡_, refl, ap, sym, subst, _∙_}
+use mathlib.Core.Bool.{false}
+use lib.ListN.{length, getD, set, replicate}
 use lib.Seq.{length-take-le}
 use Rattle.bch.proofs.logarithms.LogAnswers.{syndromesOf}
 use Rattle.chase.specs.Soft.{hardBits, reliabilities}
@@ -16,7 +16,10 @@ use Rattle.chase.proofs.search.Ready.{key-below, sums-first, sums-next, weights
 use Rattle.refusal.specs.Named.{codeOf}
 use Rattle.receiver.specs.Search.{Tried}
 use Rattle.receiver.proofs.Turns.{test-words}
+use mir.Syntax.{w64}
+use mir.Val.{Fits}
 use borrow.Author.Needs.{needs}
+use Rattle.receiver.proofs.Outcomes.{no-bool}
 use Rattle.receiver.proofs.search.search_on.Statement.{statement}
 use Rattle.receiver.proofs.search.search_on.Tie as tie
 
@@ -30,8 +33,52 @@ Inv-loop c tables s keys p base at sums₀ weights₀ o₀ to₀ b₀ sums weigh
 abbrev μ-loop : tie.MeasureT-loop
 μ-loop c tables s keys p base at sums₀ weights₀ o₀ to₀ b₀ sums weights o to b = p - b
 
-no-bool : {A : Type 0} → true ≡ false → A
-no-bool e = absurd (let z : _≡_ {A = ℕ} 0 1 = cc in omega arith)
+-- ---- one weak position more: from `to` test words of b positions to twice as many, of p positions at most
+
+record Step (b p to : ℕ) : Type 0 where
+  more : b < p
+  next : b + 1 ≤ p
+  next-fits : Fits w64 (b + 1)
+  falls : p - (b + 1) < p - b
+  inside : b < 8
+  doubled : 2 * to ≡ 2 ^ (b + 1)
+  to-fits : Fits w64 (2 * to)
+  to-most : 2 * to ≤ 64
+  room : (n : ℕ) → n ≡ 64 → to + to ≤ n
+  share : (n m : ℕ) → m ≡ n → n ≡ 64 → 2 * to ≤ m
+  tried : (k n : ℕ) → k ≤ 2 ^ b → n ≡ 2 * to → k ≤ n
+  grown : (k : ℕ) → k ≤ 2 ^ b → k ≤ 2 ^ (b + 1)
+
+step : (b p to : ℕ) → b < p → p ≤ 6 → to ≡ 2 ^ b → Step b p to
+step b p to more depth is-to =
+    let twice : 2 ^ (b + 1) ≡ 2 * 2 ^ b = rw (add-one, pow-succ' 2 b) refl in
+    let most : 2 ^ b + 2 ^ b ≤ 64 = size-most b (omega arith) in
+    record {
+      more = more;
+      next = omega arith;
+      next-fits = record { fits = omega arith };
+      falls = omega arith;
+      inside = omega arith;
+      doubled = omega arith;
+      to-fits = record { fits = omega arith };
+      to-most = omega arith;
+      room = λ n e. omega arith;
+      share = λ n m k e. omega arith;
+      tried = λ k n h e. omega arith;
+      grown = λ k h. omega arith;
+    }
+
+step-at : (o : tie.In-loop Inv-loop μ-loop) → Step (o .before .loop .b) (o .before .before .before .before .before .args .p) (o .before .loop .to)
+step-at o = step _ _ _ (o .loop-test .taken) (o .before .before .before .before .before .pre .0 .0 .deep .ready .depth) (o .before .loop .inv .1)
+
+eq-le : (a b : ℕ) → a ≡ b → a ≤ b
+eq-le a b e = omega arith
+
+not-both : (a b : ℕ) → a < b → a ≡ b → ⊥
+not-both a b h e = omega arith
+
+at-end : (b p : ℕ) → b ≤ p → p ≤ b → b ≡ p
+at-end b p h k = omega arith
 
 array-write-sums : tie.Need-array-write-sums Inv-loop μ-loop
 array-write-sums c = search needs
@@ -57,9 +104,7 @@ mul-double : tie.Need-mul-double Inv-loop μ-loop
 mul-double c = search needs
 
 array-read-double : tie.Need-array-read-double Inv-loop μ-loop
-array-read-double c =
-    let s = c .before .before .before .before .before in
-    omega (arith, s .pre .0 .0 .deep .ready .eight, s .pre .0 .0 .deep .ready .depth)
+array-read-double c = step-at c .inside
 
 slice-aggregate-double : tie.Need-slice-aggregate-double Inv-loop μ-loop
 slice-aggregate-double c = search needs
@@ -74,130 +119,123 @@ double-requires c κs =
     let l = c .before .before .before .loop in
     let r = s .pre .0 .0 in
     let ready = r .deep .ready in
-    let most = size-most (l .b) (omega (arith, ready .depth)) in
-    let below = key-below (a .s .now) (a .keys .at) (a .p) ready (l .b) (omega arith) in
-    let small = weights-small (a .s .now) (a .keys .at) (a .p) ready (l .to) (l .weights) (λ k h. l .inv .5 k (omega (arith, l .inv .1))) in
-    ((r .filled .fielded, omega (arith, r .long)), (omega (arith, l .inv .1, l .inv .2), omega (arith, l .inv .1, l .inv .3), small))
+    let z = step-at (c .before .before) in
+    let below = key-below (a .s .now) (a .keys .at) (a .p) ready (l .b) (z .more) in
+    let small =
+    weights-small (a .s .now) (a .keys .at) (a .p) ready (l .to) (l .weights) (λ k h. l .inv .5 k (subst (λ (n : ℕ). k < n) (l .inv .1) h)) in (
+      (r .filled .fielded, subst (λ (n : ℕ). getD (a .keys .at) (l .b) 0 % 1024 < n) (r .long) below),
+      (z .room _ (l .inv .2), z .room _ (l .inv .3), small),
+    )
 
 mul-to : tie.Need-mul-to Inv-loop μ-loop
-mul-to c =
-    let s = c .before .before .before .before .before .before .before .before .before .before in
-    let l = c .before .before .before .before .before .before .loop in
-    omega (arith, size-most (l .b) (omega (arith, s .pre .0 .0 .deep .ready .depth)), l .inv .1)
+mul-to c = step-at (c .before .before .before .before .before) .to-fits
 
 add-b : tie.Need-add-b Inv-loop μ-loop
-add-b c = search needs
+add-b c = step-at (c .before .before .before .before .before) .next-fits
 
 due-requires : tie.Need-due-requires Inv-loop μ-loop
-due-requires c κs = let more = c .before .before .before .before .before .loop-test .taken in omega arith
+due-requires c κs = step-at (c .before .before .before .before .before) .next
 
 array-share-prefix-sums : tie.Need-array-share-prefix-sums Inv-loop μ-loop
 array-share-prefix-sums c =
-    let s = c .before .before .before .before .before .before .before .before .before .before .before .before in
-    let l = c .before .before .before .before .before .before .before .before .loop in
-    omega (arith, size-most (l .b) (omega (arith, s .pre .0 .0 .deep .ready .depth)), l .inv .1, l .inv .2, c .before .before .before .before .double .ensures .0 .long)
+    let o = c .before .before .before .before .before .before .before in
+    step-at o .share _ _ (c .before .before .before .before .double .ensures .0 .long) (o .before .loop .inv .2)
 
 slice-aggregate-try-on : tie.Need-slice-aggregate-try-on Inv-loop μ-loop
 slice-aggregate-try-on c =
-    let l = c .before .before .before .before .before .before .before .before .before .loop in
-    let most = size-most (l .b) (omega (arith, c .before .before .before .before .before .before .before .before .before .before .before .before .before .pre .0 .0 .deep .ready .depth, c .before .before .before .before .before .before .before .before .loop-test .taken)) in
-    sym (length-take-le (2 * l .to) _ (omega (arith, l .inv .1, l .inv .2, c .before .before .before .before .before .double .ensures .0 .long)))
+    let o = c .before .before .before .before .before .before .before .before in
+    sym (length-take-le (2 * o .before .loop .to) _
+    (step-at o .share _ _ (c .before .before .before .before .before .double .ensures .0 .long) (o .before .loop .inv .2)))
 
 array-share-prefix-weights : tie.Need-array-share-prefix-weights Inv-loop μ-loop
 array-share-prefix-weights c =
-    let s = c .before .before .before .before .before .before .before .before .before .before .before .before .before in
-    let l = c .before .before .before .before .before .before .before .before .before .loop in
-    omega (arith, size-most (l .b) (omega (arith, s .pre .0 .0 .deep .ready .depth)), l .inv .1, l .inv .3, c .before .before .before .before .before .double .ensures .1 .long)
+    let o = c .before .before .before .before .before .before .before .before in
+    step-at o .share _ _ (c .before .before .before .before .before .double .ensures .1 .long) (o .before .loop .inv .3)
 
 slice-aggregate-try-on-2 : tie.Need-slice-aggregate-try-on-2 Inv-loop μ-loop
 slice-aggregate-try-on-2 c =
-    let l = c .before .before .before .before .before .before .before .before .before .before .loop in
-    let most = size-most (l .b) (omega (arith, c .before .before .before .before .before .before .before .before .before .before .before .before .before .before .pre .0 .0 .deep .ready .depth, c .before .before .before .before .before .before .before .before .before .loop-test .taken)) in
-    sym (length-take-le (2 * l .to) _ (omega (arith, l .inv .1, l .inv .3, c .before .before .before .before .before .before .double .ensures .1 .long)))
+    let o = c .before .before .before .before .before .before .before .before .before in
+    sym (length-take-le (2 * o .before .loop .to) _
+    (step-at o .share _ _ (c .before .before .before .before .before .before .double .ensures .1 .long) (o .before .loop .inv .3)))
 
 try-on-requires : tie.Need-try-on-requires Inv-loop μ-loop
 try-on-requires c κs =
-    let s = c .before .before .before .before .before .before .before .before .before .before .before .before .before .before in
-    let a = s .args in
-    let l = c .before .before .before .before .before .before .before .before .before .before .loop in
-    let r = s .pre .0 .0 in
+    let o = c .before .before .before .before .before .before .before .before .before in
     let d = c .before .before .before .before .before .before .double .ensures in
-    let twice : 2 ^ (l .b + 1) ≡ 2 * 2 ^ l .b = rw (add-one, pow-succ' 2 (l .b)) refl in
-    let most = size-most (l .b) (omega (arith, r .deep .ready .depth, c .before .before .before .before .before .before .before .before .before .loop-test .taken)) in
-    let more : l .b < a .p = c .before .before .before .before .before .before .before .before .before .loop-test .taken in
+    let s = o .before .before .before .before .before in
+    let a = s .args in
+    let l = o .before .loop in
+    let r = s .pre .0 .0 in
+    let z = step-at o in
     let sums =
     sums-next (a .s .now) (a .keys .at) (a .p) (r .deep .ready) (codeOf (a .c)) (r .filled .fielded .made .lawful) (l .b) (l .to) _ (l .sums) _
-    more (l .inv .1) refl (d .0) (l .inv .4) in
+    (z .more) (l .inv .1) refl (d .0) (l .inv .4) in
     let weights =
-    weights-next (a .s .now) (a .keys .at) (a .p) (r .deep .ready) (l .b) (l .to) _ (l .weights) _ more (l .inv .1) refl (d .1) (l .inv .5) in
-    let to : 2 * l .to ≡ 2 ^ (l .b + 1) = omega (arith, l .inv .1) in
-    let room : 2 * l .to ≤ 64 = omega (arith, l .inv .1) in
-    let ready = test-words (codeOf (a .c)) (a .p) (l .b + 1) (2 * l .to) (a .s .now) _ _ (omega arith) to room (d .0 .long ∙ l .inv .2) (d .1 .long ∙ l .inv .3)
-    sums weights in
-    ((r, ready .0), (l .inv .6, l .inv .7, omega (arith, ready .1, l .inv .1, l .inv .8)))
+    weights-next (a .s .now) (a .keys .at) (a .p) (r .deep .ready) (l .b) (l .to) _ (l .weights) _ (z .more) (l .inv .1) refl (d .1) (l .inv .5) in
+    let ready =
+    test-words (codeOf (a .c)) (a .p) (l .b + 1) (2 * l .to) (a .s .now) _ _ (z .next) (z .doubled) (z .to-most) (d .0 .long ∙ l .inv .2)
+    (d .1 .long ∙ l .inv .3) sums weights in
+    ((r, ready .0), (l .inv .6, l .inv .7, z .tried _ _ (l .inv .8) (ready .1)))
 
 returns : tie.Need-returns Inv-loop μ-loop
 returns c = (c .before .try-on .ensures .0, λ z. no-bool (sym (c .if2 .taken) ∙ z))
 
 loop-less : tie.Need-loop-less Inv-loop μ-loop
-loop-less c = search needs
+loop-less c = step-at (c .before .before .before .before .before .before .before .before .before .before .before) .falls
 
 loop-again : tie.Need-loop-again Inv-loop μ-loop
 loop-again c =
-    let s = c .before .before .before .before .before .before .before .before .before .before .before .before .before .before .before .before in
-    let a = s .args in
-    let l = c .before .before .before .before .before .before .before .before .before .before .before .before .loop in
-    let r = s .pre .0 .0 in
+    let o = c .before .before .before .before .before .before .before .before .before .before .before in
     let d = c .before .before .before .before .before .before .before .before .double .ensures in
-    let twice : 2 ^ (l .b + 1) ≡ 2 * 2 ^ l .b = rw (add-one, pow-succ' 2 (l .b)) refl in
-    let most = size-most (l .b) (omega (arith, r .deep .ready .depth, c .before .before .before .before .before .before .before .before .before .before .before .loop-test .taken)) in
-    let more : l .b < a .p = c .before .before .before .before .before .before .before .before .before .before .before .loop-test .taken in
+    let s = o .before .before .before .before .before in
+    let a = s .args in
+    let l = o .before .loop in
+    let r = s .pre .0 .0 in
+    let z = step-at o in
     let sums =
     sums-next (a .s .now) (a .keys .at) (a .p) (r .deep .ready) (codeOf (a .c)) (r .filled .fielded .made .lawful) (l .b) (l .to) _ (l .sums) _
-    more (l .inv .1) refl (d .0) (l .inv .4) in
+    (z .more) (l .inv .1) refl (d .0) (l .inv .4) in
     let weights =
-    weights-next (a .s .now) (a .keys .at) (a .p) (r .deep .ready) (l .b) (l .to) _ (l .weights) _ more (l .inv .1) refl (d .1) (l .inv .5) in
+    weights-next (a .s .now) (a .keys .at) (a .p) (r .deep .ready) (l .b) (l .to) _ (l .weights) _ (z .more) (l .inv .1) refl (d .1) (l .inv .5) in
     let e = c .before .try-on .ensures in
-    let long = e .1 (c .if2 .left) ∙ length-take-le (2 * l .to) _ (omega (arith, d .0 .long, l .inv .1, l .inv .2)) in
-    let made : c .before .try-on .result .tries ≡ 2 ^ (l .b + 1) = omega (arith, long, l .inv .1) in
-    (omega arith, omega (arith, l .inv .1), d .0 .long ∙ l .inv .2, d .1 .long ∙ l .inv .3, sums, weights, e .0, c .if2 .left, omega arith, λ _. made)
+    let long = e .1 (c .if2 .left) ∙ length-take-le (2 * l .to) _ (z .share _ _ (d .0 .long) (l .inv .2)) in
+    let made = long ∙ z .doubled in
+    (z .next, z .doubled, d .0 .long ∙ l .inv .2, d .1 .long ∙ l .inv .3, sums, weights, e .0, c .if2 .left, eq-le _ _ made, λ _. made)
 
 loop-less-2 : tie.Need-loop-less-2 Inv-loop μ-loop
-loop-less-2 c = search needs
+loop-less-2 c = step-at (c .before .before .before .before .before .before .before) .falls
 
 loop-again-2 : tie.Need-loop-again-2 Inv-loop μ-loop
 loop-again-2 c =
-    let s = c .before .before .before .before .before .before .before .before .before .before .before .before in
-    let a = s .args in
-    let l = c .before .before .before .before .before .before .before .before .loop in
-    let r = s .pre .0 .0 in
+    let o = c .before .before .before .before .before .before .before in
     let d = c .before .before .before .before .double .ensures in
-    let twice : 2 ^ (l .b + 1) ≡ 2 * 2 ^ l .b = rw (add-one, pow-succ' 2 (l .b)) refl in
-    let most = size-most (l .b) (omega (arith, r .deep .ready .depth, c .before .before .before .before .before .before .before .loop-test .taken)) in
-    let more : l .b < a .p = c .before .before .before .before .before .before .before .loop-test .taken in
+    let s = o .before .before .before .before .before in
+    let a = s .args in
+    let l = o .before .loop in
+    let r = s .pre .0 .0 in
+    let z = step-at o in
     let sums =
     sums-next (a .s .now) (a .keys .at) (a .p) (r .deep .ready) (codeOf (a .c)) (r .filled .fielded .made .lawful) (l .b) (l .to) _ (l .sums) _
-    more (l .inv .1) refl (d .0) (l .inv .4) in
+    (z .more) (l .inv .1) refl (d .0) (l .inv .4) in
     let weights =
-    weights-next (a .s .now) (a .keys .at) (a .p) (r .deep .ready) (l .b) (l .to) _ (l .weights) _ more (l .inv .1) refl (d .1) (l .inv .5) in
+    weights-next (a .s .now) (a .keys .at) (a .p) (r .deep .ready) (l .b) (l .to) _ (l .weights) _ (z .more) (l .inv .1) refl (d .1) (l .inv .5) in
     let later = c .before .due .ensures (c .if1 .left) in (
-      omega arith,
-      omega (arith, l .inv .1),
+      z .next,
+      z .doubled,
       d .0 .long ∙ l .inv .2,
       d .1 .long ∙ l .inv .3,
       sums,
       weights,
       l .inv .6,
       l .inv .7,
-      omega (arith, l .inv .8),
-      λ q. absurd (omega arith),
+      z .grown _ (l .inv .8),
+      λ q. absurd (not-both _ _ later q),
     )
 
 returns-2 : tie.Need-returns-2 Inv-loop μ-loop
 returns-2 c =
     let l = c .before .loop in
-    let s = c .before .before .before .before .before in
-    let e : l .b ≡ s .args .p = omega arith in
+    let e = at-end _ _ (l .inv .0) (c .loop-test .left) in
     (l .inv .6, λ _. l .inv .9 e ∙ ap (λ (n : ℕ). 2 ^ n) e)
 
 pub search-on-spec : {M : Type 1} → statement M

@@ -1,16 +1,14 @@
 -- What is left to try, with the best so far, gives what all tries give. Assumes nothing.
-use Prim.Native.Nat.{ℕ, _+_, _-_, _*_, _^_, _≤_, _<_}
+use Prim.Native.Nat.{_-_, _^_, _≤_, _<_}
 use native.Mathlib.Omega.{arith}
-use mathlib.Core.Path.{_≡_, refl, ap, sym, _∙_, subst}
-use mathlib.Core.Bool.{Bool, true, false}
+use mathlib.Core.Path.{_≡_, sym, _∙_}
+use mathlib.Core.Bool.{false}
 use borrow.Author.Tests.{not-true, not-false}
-use lib.ListN.{length, take}
+use lib.ListN.{length}
 use lib.Pow.{pow-mono}
-use Rattle.chase.proofs.ranking.Allowances.{weighed}
 use Rattle.refusal.specs.Named.{codeOf}
-use Rattle.receiver.specs.Search.{judgedBy, Tried}
-use Rattle.receiver.specs.declared.search.Outcome.{Outcome}
-use Rattle.receiver.proofs.Outcomes.{judged-tries}
+use Rattle.receiver.specs.Search.{Tried}
+use Rattle.receiver.proofs.Outcomes.{no-bool, judged-tries}
 use Rattle.receiver.proofs.Turns.{are-syndromes, turn-missed, turn-weight, turn-distinct, turn-judged}
 use borrow.Author.Needs.{needs}
 use Rattle.receiver.proofs.search.try_on.Statement.{statement}
@@ -22,13 +20,15 @@ Inv-loop c tables s keys p sums weights d o₀ o = Tried (codeOf c) p s o × (o 
 abbrev μ-loop : tie.MeasureT-loop
 μ-loop c tables s keys p sums weights d o₀ o = length sums - o .tries
 
-no-bool : {A : Type 0} → true ≡ false → A
-no-bool e = absurd (let z : _≡_ {A = ℕ} 0 1 = cc in omega arith)
-
 -- the outcome with one candidate more
 after : (c : tie.After-judged Inv-loop μ-loop)
-    → Tried (codeOf (c .before .before .before .before .before .before .before .before .before .before .before .before .before .before .args .c)) (c .before .before .before .before .before .before .before .before .before .before .before .before .before .before .args .p) (c .before .before .before .before .before .before .before .before .before .before .before .before .before .before .args .s .now) (c .judged .result)
-    × (c .judged .result .tries ≡ c .before .before .before .before .before .next .result .tries) × (c .before .before .before .before .before .before .before .before .loop .o .tries < c .before .before .before .before .before .next .result .tries) × (c .before .before .before .before .before .next .result .tries ≤ length (c .before .before .before .before .before .before .before .before .before .before .before .before .before .before .args .sums .now))
+    → Tried (codeOf (c .before .before .before .before .before .before .before .before .before .before .before .before .before .before .args .c))
+    (c .before .before .before .before .before .before .before .before .before .before .before .before .before .before .args .p)
+    (c .before .before .before .before .before .before .before .before .before .before .before .before .before .before .args .s .now) (c .judged .result)
+    × (c .judged .result .tries ≡ c .before .before .before .before .before .next .result .tries)
+    × (c .before .before .before .before .before .before .before .before .loop .o .tries < c .before .before .before .before .before .next .result .tries)
+    × (c .before .before .before .before .before .next .result .tries ≤ length
+    (c .before .before .before .before .before .before .before .before .before .before .before .before .before .before .args .sums .now))
 after c =
     let s = c .before .before .before .before .before .before .before .before .before .before .before .before .before .before in
     let a = s .args in
@@ -82,7 +82,12 @@ mul-weigh c =
 shared-slice-read-weigh : tie.Need-shared-slice-read-weigh Inv-loop μ-loop
 shared-slice-read-weigh c =
     let n = c .before .before .before .next .ensures .0 in
-    omega (arith, n .there (not-false _ (c .before .before .if2 .left)) .0, n .most, c .before .before .before .before .before .before .before .before .before .before .before .before .pre .0 .1 .as-many)
+    omega (
+      arith,
+      n .there (not-false _ (c .before .before .if2 .left)) .0,
+      n .most,
+      c .before .before .before .before .before .before .before .before .before .before .before .before .pre .0 .1 .as-many,
+    )
 
 weigh-requires : tie.Need-weigh-requires Inv-loop μ-loop
 weigh-requires c κs =
@@ -105,7 +110,13 @@ judged-requires c κs =
     let s = c .before .before .before .before .before .before .before .before .before .before .before .before .before in
     let k = s .pre .0 .0 in
     let n = c .before .before .before .before .next .ensures .0 .there (not-false _ (c .before .before .before .if2 .left)) .0 in
-    let d : c .before .before .before .before .before .before .before .before .distance .result ≤ 8 = omega (arith, c .before .before .before .before .before .before .before .before .distance .ensures, k .filled .fielded .made .is-d, k .filled .fielded .made .lawful .t-most) in
+    let d : c .before .before .before .before .before .before .before .before .distance .result ≤ 8 =
+    omega (
+      arith,
+      c .before .before .before .before .before .before .before .before .distance .ensures,
+      k .filled .fielded .made .is-d,
+      k .filled .fielded .made .lawful .t-most,
+    ) in
     (d, k .deep .ready .eight, omega arith)
 
 returns-2 : tie.Need-returns-2 Inv-loop μ-loop

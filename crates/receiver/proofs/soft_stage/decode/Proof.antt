@@ -32,7 +32,8 @@ decode-with-requires c κs =
     let s = c .before .before .before .before .before .before .before in
     let a = s .args in
     let check : ℕ → Option Refusal = λ n. symbolsCheck (a .p) n (a .s .now) (length (a .codeword .now)) in
-    let passed = ap check (sym (c .before .before .before .before .length .ensures)) ∙ sym (c .before .before .before .symbols .ensures) ∙ ap checked (c .before .enum-told .given .1) in
+    let passed = ap check (sym (c .before .before .before .before .length .ensures)) ∙ sym (c .before .before .before .symbols .ensures)
+    ∙ ap checked (c .before .enum-told .given .1) in
     let ok = symbols-accepted (a .p) (a .c .n) (a .s .now) (length (a .codeword .now)) passed in
     (s .pre, ok .0, ok .1, ok .2, ok .3)
 
@@ -42,7 +43,8 @@ returns c =
     let s = c .before .before .before .before .before .before .before in
     let a = s .args in
     let check : ℕ → Option Refusal = λ n. symbolsCheck (a .p) n (a .s .now) (length (a .codeword .now)) in
-    let refused = ap check (sym (c .before .before .before .before .length .ensures)) ∙ sym (c .before .before .before .symbols .ensures) ∙ ap checked (c .before .r .given .1) in
+    let refused = ap check (sym (c .before .before .before .before .length .ensures)) ∙ sym (c .before .before .before .symbols .ensures)
+    ∙ ap checked (c .before .r .given .1) in
     let stage = softStage (codeOf (a .c)) (a .p) (a .s .now) in
     (answered-some _ _ stage refused, buffer-some _ _ (a .codeword .now) (softWritten stage (a .codeword .now)) refused)
 
@@ -55,7 +57,8 @@ returns-2 c =
     let s = c .before .before .before .before .before .before .before .before .before .before in
     let a = s .args in
     let check : ℕ → Option Refusal = λ n. symbolsCheck (a .p) n (a .s .now) (length (a .codeword .now)) in
-    let passed = ap check (sym (c .before .before .before .before .before .before .before .length .ensures)) ∙ sym (c .before .before .before .before .before .before .symbols .ensures) ∙ ap checked (c .before .before .before .before .enum-told .given .1) in
+    let passed = ap check (sym (c .before .before .before .before .before .before .before .length .ensures))
+    ∙ sym (c .before .before .before .before .before .before .symbols .ensures) ∙ ap checked (c .before .before .before .before .enum-told .given .1) in
     let stage = softStage (codeOf (a .c)) (a .p) (a .s .now) in
     let d = c .before .before .decode-with .ensures in
     (d .0 ∙ answered-none _ stage passed, d .1 ∙ buffer-none _ (a .codeword .now) (softWritten stage (a .codeword .now)) passed)

@@ -44,7 +44,11 @@ slice-read-out : tie.Need-slice-read-out Inv-loop μ-loop
 slice-read-out c =
     let s = c .before .before .before .before .before .before .before in
     let l = c .before .before .before .before .loop in
-    omega (arith, c .before .place-of .ensures, weak-below (length (s .args .out .now)) (l .k) (s .args .p) (s .args .keys .at) (s .pre .3) (omega arith) (omega arith))
+    omega (
+      arith,
+      c .before .place-of .ensures,
+      weak-below (length (s .args .out .now)) (l .k) (s .args .p) (s .args .keys .at) (s .pre .3) (omega arith) (omega arith),
+    )
 
 sub-out : tie.Need-sub-out Inv-loop μ-loop
 sub-out c =
@@ -55,7 +59,11 @@ slice-write-out : tie.Need-slice-write-out Inv-loop μ-loop
 slice-write-out c =
     let s = c .before .before .before .before .before .before .before in
     let l = c .before .before .before .before .loop in
-    omega (arith, c .before .place-of .ensures, weak-below (length (s .args .out .now)) (l .k) (s .args .p) (s .args .keys .at) (s .pre .3) (omega arith) (omega arith))
+    omega (
+      arith,
+      c .before .place-of .ensures,
+      weak-below (length (s .args .out .now)) (l .k) (s .args .p) (s .args .keys .at) (s .pre .3) (omega arith) (omega arith),
+    )
 
 add-k : tie.Need-add-k Inv-loop μ-loop
 add-k c = omega arith

@@ -1,95 +1,241 @@
--- This function meets its contract. Assumes nothing.
+-- Below i the powers hold what is added, from i on what they held; e is d i less whole periods. Assumes nothing.
 use Prim.Native.Nat.{ℕ, _+_, _-_, _*_, _%_, _^_, _≤_, _<_}
-use mathlib.Core.Path.{_≡_, refl, ap, sym, _∙_}
-use native.Mathlib.Omega.{arith}
-use borrow.Author.Needs.{needs}
-use Rattle.bch.proofs.tables.TableFills.{FieldPart, stage, mixed, mixed-none, mixed-more, mixed-all}
-use Rattle.bch.proofs.tables.TableLoops.{Turn, TurnIn, turn-none, turn-in, turn-inside, turn-more, turn-out, turn-power}
-use lib.ListN.{length, getD, set, length-set}
-use Rattle.galois.proofs.Primitive.{Primitive, primitive-5-10}
+use mathlib.Core.Path.{_≡_, refl, ap, subst, sym, _∙_}
 use mathlib.Core.Logic.{_⊎_, inl, inr}
-use mathlib.Core.Path.{subst}
-use mathlib.Core.Logic.{⊎-elim}
-use native.Mathlib.Nat.{mul-le-mul}
-use Rattle.bch.proofs.tables.TableFills.{mixed-here, stage-low}
+use native.Mathlib.Nat.{mul-le-mul, le-refl}
+use native.Mathlib.Omega.{arith}
+use lib.ListN.{length, getD, set, length-set}
+use mir.Syntax.{w32, w64}
+use mir.Val.{Fits}
 use Rattle.galois.specs.Field.{alpha}
+use Rattle.galois.proofs.Primitive.{Primitive, primitive-5-10}
+use Rattle.bch.proofs.tables.TableFills.{FieldPart, stage, stage-low, mixed, mixed-none, mixed-here, mixed-more, mixed-all}
+use Rattle.bch.proofs.tables.TableLoops.{Turn, TurnIn, turn-none, turn-in, turn-inside, turn-more, turn-out, turn-power}
+use Rattle.receiver.proofs.Places.{near, power-at, power-fits, power-scaled, step-fits, falls, goes-on, wrapped, ended, fell}
 use Rattle.receiver.proofs.tables.add_powers.Statement.{statement}
 use Rattle.receiver.proofs.tables.add_powers.Tie as tie
 
 abbrev Inv-loop2 : tie.InvT-loop2
-Inv-loop2 t d scale tables₀ m period powers e₀ i₀ tables e i = (i ≤ 2 ^ m - 1) × (i₀ ≤ i) × (e < 2 ^ m - 1 + d) × ((i₀ < i) ⊎ (e ≤ d)) × (length tables ≡ length tables₀) × TurnIn (2 ^ m - 1) d i e × FieldPart m (mixed (stage m t) (stage m (t + 1)) i) (2 ^ m - 1) tables
+Inv-loop2 t d scale tables₀ m period powers e₀ i₀ tables e i =
+    (i ≤ 2 ^ m - 1)
+    × (i₀ ≤ i)
+    × (e < 2 ^ m - 1 + d)
+    × ((i₀ < i) ⊎ (e ≤ d))
+    × (length tables ≡ length tables₀)
+    × TurnIn (2 ^ m - 1) d i e
+    × FieldPart m (mixed (stage m t) (stage m (t + 1)) i) (2 ^ m - 1) tables
 
 abbrev μ-loop2 : tie.MeasureT-loop2
 μ-loop2 t d scale tables₀ m period powers e₀ i₀ tables e i = 2 ^ m - 1 - i
 
 abbrev Inv-loop : tie.InvT-loop
-Inv-loop t d scale tables₀ m period powers e₀ i₀ tables e i = (i ≤ 2 ^ m - 1) × (e ≤ d) × (length tables ≡ length tables₀) × Turn (2 ^ m - 1) d i e × FieldPart m (mixed (stage m t) (stage m (t + 1)) i) (2 ^ m - 1) tables
+Inv-loop t d scale tables₀ m period powers e₀ i₀ tables e i =
+    (i ≤ 2 ^ m - 1)
+    × (e ≤ d)
+    × (length tables ≡ length tables₀)
+    × Turn (2 ^ m - 1) d i e
+    × FieldPart m (mixed (stage m t) (stage m (t + 1)) i) (2 ^ m - 1) tables
 
 abbrev μ-loop : tie.MeasureT-loop
 μ-loop t d scale tables₀ m period powers e₀ i₀ tables e i = 2 ^ m - 1 - i
 
+-- ---- what is added fits
+
+product-le : (k x : ℕ) → k * (x % 1024) ≤ k * 1024
+product-le k x = mul-le-mul (omega arith) (omega arith)
+
+product-fits : (k x : ℕ) → k * 1024 ≤ 2147483648 → Fits w32 (k * (x % 1024))
+product-fits k x room = record { fits = omega (arith, product-le k x) }
+
+sum-fits : (y k x : ℕ) → y < k → k * 1024 ≤ 2147483648 → Fits w32 (y + k * (x % 1024))
+sum-fits y k x low room = record { fits = omega (arith, product-le k x) }
+
+-- ---- small numbers
+
+starts : (p d i e : ℕ) → i < p → e ≤ d → e < p + d
+starts p d i e h k = omega arith
+
+few : (d : ℕ) → d ≤ 5 → d ≤ 8
+few d h = omega arith
+
+steps : (d s : ℕ) → d ≤ 5 → 32 ≤ s → d < s - 1
+steps d s h k = omega arith
+
+stages : (t : ℕ) → 1 ≤ t → t ≤ 2 → (t ≤ 3) × (1 ≤ t + 1) × (t + 1 ≤ 3)
+stages t l u = (omega arith, omega arith, omega arith)
+
+-- ---- at the inner loop's test, in the period: i is below it too
+
+module _
+    (o : tie.At-loop2 Inv-loop2 μ-loop2 Inv-loop μ-loop)
+    (h : o .loop2 .e < o .before .before .before .args .c .period) where
+  g : Primitive (o .before .before .before .args .c .m)
+  g = let k = o .before .before .before .pre .0 .lawful in primitive-5-10 _ (k .m-least) (k .m-most)
+
+  e-lt : o .loop2 .e < 2 ^ o .before .before .before .args .c .m - 1
+  e-lt = subst (λ (p : ℕ). o .loop2 .e < p) (o .before .before .before .pre .0 .is-period) h
+
+  i-lt : o .loop2 .i < 2 ^ o .before .before .before .args .c .m - 1
+  i-lt = turn-inside _ (o .before .before .before .args .d) (o .loop2 .i) (o .loop2 .e) e-lt (o .loop2 .inv .5)
+
+  i-at : o .before .before .before .args .c .powers + o .loop2 .i < length (o .loop2 .tables)
+  i-at = power-at _ _ _ _ (o .before .before .before .pre .0 .is-powers) i-lt (o .loop2 .inv .6 .long)
+
+  i-scaled : Fits w64 ((o .before .before .before .args .c .powers + o .loop2 .i) * 4)
+  i-scaled = let k = o .before .before .before .pre .0 in power-scaled _ _ _ (k .size-most) (k .is-powers) (near _ _ i-lt)
+
+  i-fits : Fits w64 (o .before .before .before .args .c .powers + o .loop2 .i)
+  i-fits = let k = o .before .before .before .pre .0 in power-fits _ _ _ (k .size-most) (k .is-powers) (near _ _ i-lt)
+
+  -- the entry at i still holds what it held, which is below the scale
+  entry-lt : getD (o .loop2 .tables) (o .before .before .before .args .c .powers + o .loop2 .i) 0 < o .before .before .before .args .scale
+  entry-lt =
+      let s = o .before .before .before in
+      let a = s .args in
+      let m = a .c .m in
+      let l = o .loop2 in
+      subst (λ (x : ℕ). x < a .scale)
+      (sym
+      (ap (λ (p : ℕ). getD (l .tables) (p + l .i) 0) (s .pre .0 .is-powers)
+      ∙ mixed-here m (stage m (a .t)) (stage m (a .t + 1)) (l .tables) (l .i) i-lt (l .inv .6)))
+      (s .pre .1 .low (l .i))
+
 loop-holds : tie.Need-loop-holds Inv-loop2 μ-loop2 Inv-loop μ-loop
-loop-holds c = let s = c in let a = s .args in let m = a .c .m in (omega arith, omega arith, refl, turn-none (2 ^ m - 1) (a .d), mixed-none m (stage m (a .t)) (stage m (a .t + 1)) (a .tables .now) (s .pre .2))
+loop-holds c =
+    let a = c .args in
+    let m = a .c .m in
+    let none = mixed-none m (stage m (a .t)) (stage m (a .t + 1)) (a .tables .now) (c .pre .2) in
+    (omega arith, omega arith, refl, turn-none (2 ^ m - 1) (a .d), none)
 
 loop2-holds : tie.Need-loop2-holds Inv-loop2 μ-loop2 Inv-loop μ-loop
-loop2-holds c = let s = c .before .before in let a = s .args in let m = a .c .m in let l = c .before .loop in (l .inv .0, omega arith, omega arith, inr (l .inv .1), refl, turn-in (2 ^ m - 1) (a .d) (l .i) (l .e) (omega arith) (s .pre .1 .d-least) (l .inv .3), l .inv .4)
+loop2-holds c =
+    let s = c .before .before in
+    let l = c .before .loop in
+    let u = s .pre .1 .d-least in
+    let h : l .i < 2 ^ s .args .c .m - 1 = subst (λ (p : ℕ). l .i < p) (s .pre .0 .is-period) (c .loop-test .taken) in
+    (l .inv .0, le-refl _, starts _ _ _ _ h (l .inv .1), inr (l .inv .1), refl, turn-in _ (s .args .d) (l .i) (l .e) h u (l .inv .3), l .inv .4)
 
 add-x : tie.Need-add-x Inv-loop2 μ-loop2 Inv-loop μ-loop
-add-x c = search needs
+add-x c =
+    let k = c .before .before .before .before .pre .0 in
+    power-fits _ _ _ (k .size-most) (k .is-powers) (near _ _ (e-lt (c .before) (c .loop2-test .taken)))
 
 mul-x : tie.Need-mul-x Inv-loop2 μ-loop2 Inv-loop μ-loop
-mul-x c = search needs
+mul-x c =
+    let k = c .before .before .before .before .pre .0 in
+    power-scaled _ _ _ (k .size-most) (k .is-powers) (near _ _ (e-lt (c .before) (c .loop2-test .taken)))
 
 slice-read-x : tie.Need-slice-read-x Inv-loop2 μ-loop2 Inv-loop μ-loop
-slice-read-x c = search needs
+slice-read-x c =
+    let o = c .before .before in
+    power-at _ _ _ _ (o .before .before .before .pre .0 .is-powers) (e-lt o (c .before .loop2-test .taken)) (o .loop2 .inv .6 .long)
 
 add-y : tie.Need-add-y Inv-loop2 μ-loop2 Inv-loop μ-loop
-add-y c = let s = c .before .before .before .before .before in let a = s .args in let m = a .c .m in let g : Primitive m = primitive-5-10 m (s .pre .0 .lawful .m-least) (s .pre .0 .lawful .m-most) in let l = c .before .before .loop2 in let u = s .pre .1 in let hi : l .i < 2 ^ m - 1 = turn-inside (2 ^ m - 1) (a .d) (l .i) (l .e) (omega arith) (l .inv .5) in omega arith
+add-y c = i-fits (c .before .before) (c .before .loop2-test .taken)
 
 mul-y : tie.Need-mul-y Inv-loop2 μ-loop2 Inv-loop μ-loop
-mul-y c = let s = c .before .before .before .before .before in let a = s .args in let m = a .c .m in let g : Primitive m = primitive-5-10 m (s .pre .0 .lawful .m-least) (s .pre .0 .lawful .m-most) in let l = c .before .before .loop2 in let u = s .pre .1 in let hi : l .i < 2 ^ m - 1 = turn-inside (2 ^ m - 1) (a .d) (l .i) (l .e) (omega arith) (l .inv .5) in omega arith
+mul-y c = i-scaled (c .before .before) (c .before .loop2-test .taken)
 
 slice-read-y : tie.Need-slice-read-y Inv-loop2 μ-loop2 Inv-loop μ-loop
-slice-read-y c = let s = c .before .before .before .before .before .before in let a = s .args in let m = a .c .m in let g : Primitive m = primitive-5-10 m (s .pre .0 .lawful .m-least) (s .pre .0 .lawful .m-most) in let l = c .before .before .before .loop2 in let u = s .pre .1 in let hi : l .i < 2 ^ m - 1 = turn-inside (2 ^ m - 1) (a .d) (l .i) (l .e) (omega arith) (l .inv .5) in omega (arith, l .inv .6 .long)
+slice-read-y c = i-at (c .before .before .before) (c .before .before .loop2-test .taken)
 
 mul-tables : tie.Need-mul-tables Inv-loop2 μ-loop2 Inv-loop μ-loop
-mul-tables c = let s = c .before .before .before .before .before .before in let a = s .args in let m = a .c .m in let g : Primitive m = primitive-5-10 m (s .pre .0 .lawful .m-least) (s .pre .0 .lawful .m-most) in let l = c .before .before .before .loop2 in let u = s .pre .1 in let hi : l .i < 2 ^ m - 1 = turn-inside (2 ^ m - 1) (a .d) (l .i) (l .e) (omega arith) (l .inv .5) in let w : a .scale * (getD (l .tables) (a .c .powers + l .e) 0 % 1024) ≤ a .scale * 1024 = mul-le-mul (omega arith) (omega arith) in omega (arith, u .room)
+mul-tables c = product-fits _ _ (c .before .before .before .before .before .before .pre .1 .room)
 
 add-tables : tie.Need-add-tables Inv-loop2 μ-loop2 Inv-loop μ-loop
-add-tables c = let s = c .before .before .before .before .before .before in let a = s .args in let m = a .c .m in let g : Primitive m = primitive-5-10 m (s .pre .0 .lawful .m-least) (s .pre .0 .lawful .m-most) in let l = c .before .before .before .loop2 in let u = s .pre .1 in let hi : l .i < 2 ^ m - 1 = turn-inside (2 ^ m - 1) (a .d) (l .i) (l .e) (omega arith) (l .inv .5) in let w : a .scale * (getD (l .tables) (a .c .powers + l .e) 0 % 1024) ≤ a .scale * 1024 = mul-le-mul (omega arith) (omega arith) in let y : getD (l .tables) (a .c .powers + l .i) 0 ≡ stage m (a .t) (l .i) = (let k : a .c .powers + l .i ≡ 2 ^ m + l .i = omega arith in ap (λ (j : ℕ). getD (l .tables) j 0) k ∙ mixed-here m (stage m (a .t)) (stage m (a .t + 1)) (l .tables) (l .i) hi (l .inv .6)) in omega (arith, u .room, u .low (l .i))
+add-tables c =
+    let o = c .before .before .before in
+    sum-fits _ _ _ (entry-lt o (c .before .before .loop2-test .taken)) (o .before .before .before .pre .1 .room)
 
 add-tables-2 : tie.Need-add-tables-2 Inv-loop2 μ-loop2 Inv-loop μ-loop
-add-tables-2 c = search needs
+add-tables-2 c = i-fits (c .before .before .before) (c .before .before .loop2-test .taken)
 
 mul-tables-2 : tie.Need-mul-tables-2 Inv-loop2 μ-loop2 Inv-loop μ-loop
-mul-tables-2 c = search needs
+mul-tables-2 c = i-scaled (c .before .before .before) (c .before .before .loop2-test .taken)
 
 slice-write-tables : tie.Need-slice-write-tables Inv-loop2 μ-loop2 Inv-loop μ-loop
-slice-write-tables c = let s = c .before .before .before .before .before .before in let a = s .args in let m = a .c .m in let g : Primitive m = primitive-5-10 m (s .pre .0 .lawful .m-least) (s .pre .0 .lawful .m-most) in let l = c .before .before .before .loop2 in let u = s .pre .1 in let hi : l .i < 2 ^ m - 1 = turn-inside (2 ^ m - 1) (a .d) (l .i) (l .e) (omega arith) (l .inv .5) in omega (arith, l .inv .6 .long)
+slice-write-tables c = i-at (c .before .before .before) (c .before .before .loop2-test .taken)
 
 add-e : tie.Need-add-e Inv-loop2 μ-loop2 Inv-loop μ-loop
-add-e c = search needs
+add-e c =
+    let o = c .before .before .before in
+    let s = o .before .before .before in
+    let h = e-lt o (c .before .before .loop2-test .taken) in
+    step-fits _ _ _ (s .pre .0 .size-most) (near _ _ h) (few _ (s .pre .1 .d-most))
 
 add-i : tie.Need-add-i Inv-loop2 μ-loop2 Inv-loop μ-loop
-add-i c = search needs
+add-i c =
+    let o = c .before .before .before in
+    let h = i-lt o (c .before .before .loop2-test .taken) in
+    step-fits _ _ 1 (o .before .before .before .pre .0 .size-most) (near _ _ h) (omega arith)
 
 loop2-less : tie.Need-loop2-less Inv-loop2 μ-loop2 Inv-loop μ-loop
-loop2-less c = let s = c .before .before .before .before .before .before in let a = s .args in let m = a .c .m in let g : Primitive m = primitive-5-10 m (s .pre .0 .lawful .m-least) (s .pre .0 .lawful .m-most) in let l = c .before .before .before .loop2 in let u = s .pre .1 in let hi : l .i < 2 ^ m - 1 = turn-inside (2 ^ m - 1) (a .d) (l .i) (l .e) (omega arith) (l .inv .5) in omega arith
+loop2-less c = falls _ _ (i-lt (c .before .before .before) (c .before .before .loop2-test .taken))
 
 loop2-again : tie.Need-loop2-again Inv-loop2 μ-loop2 Inv-loop μ-loop
-loop2-again c = let s = c .before .before .before .before .before .before in let a = s .args in let m = a .c .m in let g : Primitive m = primitive-5-10 m (s .pre .0 .lawful .m-least) (s .pre .0 .lawful .m-most) in let l = c .before .before .before .loop2 in let u = s .pre .1 in let hi : l .i < 2 ^ m - 1 = turn-inside (2 ^ m - 1) (a .d) (l .i) (l .e) (omega arith) (l .inv .5) in let k : a .c .powers ≡ 2 ^ m = omega arith in let low : (v : ℕ) → 1 ≤ v → v ≤ 3 → (j : ℕ) → j < 2 ^ m - 1 → stage m v j % 1024 ≡ alpha m j = λ v x y j z. stage-low m g (s .pre .0 .lawful .m-most) j v x y in (omega arith, omega arith, omega arith, inl (omega arith), simp length-set (l .inv .4), turn-more (2 ^ m - 1) (a .d) (l .i) (l .e) (l .inv .5), subst (λ (o : ℕ). FieldPart m (mixed (stage m (a .t)) (stage m (a .t + 1)) (l .i + 1)) (2 ^ m - 1) (set (l .tables) (o + l .i) (getD (l .tables) (o + l .i) 0 + a .scale * (getD (l .tables) (o + l .e) 0 % 1024)))) (sym k) (mixed-more m (stage m (a .t)) (stage m (a .t + 1)) (l .tables) (a .d) (a .scale) (l .i) (l .e) hi (omega arith) (turn-power m g (a .d) (l .i) (l .e) (record { turns = l .inv .5 .turns; sum = l .inv .5 .sum })) (low (a .t) (u .some) (omega (arith, u .few))) (low (a .t + 1) (omega arith) (omega (arith, u .few))) (λ j z. u .sum j) (l .inv .6)))
+loop2-again c =
+    let o = c .before .before .before in
+    let s = o .before .before .before in
+    let a = s .args in
+    let m = a .c .m in
+    let l = o .loop2 in
+    let u = s .pre .1 in
+    let h = c .before .before .loop2-test .taken in
+    let low : (v : ℕ) → 1 ≤ v → v ≤ 3 → (j : ℕ) → j < 2 ^ m - 1 → stage m v j % 1024 ≡ alpha m j =
+    λ v x y j z. stage-low m (g o h) (s .pre .0 .lawful .m-most) j v x y in
+    let same-turn = turn-power m (g o h) (a .d) (l .i) (l .e) (record { turns = l .inv .5 .turns; sum = l .inv .5 .sum }) in
+    let t = stages _ (u .some) (u .few) in
+    let added =
+    mixed-more m (stage m (a .t)) (stage m (a .t + 1)) (l .tables) (a .d) (a .scale) (l .i) (l .e) (i-lt o h) (e-lt o h) same-turn
+    (low (a .t) (u .some) (t .0)) (low (a .t + 1) (t .1) (t .2)) (λ j z. u .sum j) (l .inv .6) in
+    let more = goes-on _ (a .d) _ _ _ (l .inv .1) (i-lt o h) (e-lt o h) in (
+      more .1,
+      more .2,
+      more .3,
+      inl (more .4),
+      simp length-set (l .inv .4),
+      turn-more _ (a .d) (l .i) (l .e) (l .inv .5),
+      subst
+          (λ (p : ℕ). FieldPart m (mixed (stage m (a .t)) (stage m (a .t + 1)) (l .i + 1)) (2 ^ m - 1)
+          (set (l .tables) (p + l .i) (getD (l .tables) (p + l .i) 0 + a .scale * (getD (l .tables) (p + l .e) 0 % 1024))))
+          (sym (s .pre .0 .is-powers)) added,
+    )
 
 loop-less : tie.Need-loop-less Inv-loop2 μ-loop2 Inv-loop μ-loop
-loop-less c = let s = c .before .before .before .before in let a = s .args in let m = a .c .m in let l = c .before .loop2 in ⊎-elim (λ z. omega arith) (λ z. omega (arith, s .pre .1 .d-most)) (l .inv .3)
+loop-less c =
+    let s = c .before .before .before .before in
+    let k = s .pre .0 in
+    let d = steps _ _ (s .pre .1 .d-most) (k .size-least) in
+    fell _ _ _ _ _ _ (k .is-period) d (c .before .before .loop-test .taken) (c .loop2-test .left) (c .before .loop2 .inv .3)
 
 loop-again : tie.Need-loop-again Inv-loop2 μ-loop2 Inv-loop μ-loop
-loop-again c = let s = c .before .before .before .before in let a = s .args in let m = a .c .m in let l = c .before .loop2 in (l .inv .0, omega arith, l .inv .4 ∙ c .before .before .before .loop .inv .2, subst (λ (o : ℕ). Turn (2 ^ m - 1) (a .d) (l .i) (l .e - o)) (sym (s .pre .0 .is-period)) (turn-out (2 ^ m - 1) (a .d) (l .i) (l .e) (omega arith) (l .inv .5)), l .inv .6)
+loop-again c =
+    let s = c .before .before .before .before in
+    let l = c .before .loop2 in
+    let d = s .args .d in
+    let p = s .pre .0 .is-period in
+    let q = wrapped _ d _ _ p (c .loop2-test .left) (l .inv .2) in
+    let out = turn-out _ d (l .i) (l .e) (q .0) (l .inv .5) in (
+      l .inv .0,
+      q .1,
+      l .inv .4 ∙ c .before .before .before .loop .inv .2,
+      subst (λ (k : ℕ). Turn (2 ^ s .args .c .m - 1) d (l .i) (l .e - k)) (sym p) out,
+      l .inv .6,
+    )
 
 same-length : tie.Need-same-length Inv-loop2 μ-loop2 Inv-loop μ-loop
-same-length c = search needs
+same-length c = c .before .loop .inv .2
 
 returns : tie.Need-returns Inv-loop2 μ-loop2 Inv-loop μ-loop
-returns c = let s = c .before .before in let a = s .args in let m = a .c .m in let l = c .before .loop in let e : l .i ≡ 2 ^ m - 1 = omega arith in mixed-all m (stage m (a .t)) (stage m (a .t + 1)) (l .tables) (rw e at (l .inv .4))
+returns c =
+    let s = c .before .before in
+    let a = s .args in
+    let m = a .c .m in
+    let l = c .before .loop in
+    let end = ended _ _ _ (s .pre .0 .is-period) (c .loop-test .left) (l .inv .0) in
+    let f = stage m (a .t) in
+    let f′ = stage m (a .t + 1) in
+    mixed-all m f f′ (l .tables) (subst (λ (i : ℕ). FieldPart m (mixed f f′ i) (2 ^ m - 1) (l .tables)) end (l .inv .4))
 
 pub add-powers-spec : {M : Type 1} → statement M
 add-powers-spec =

@@ -1,4 +1,4 @@
--- This function meets its contract. Assumes nothing.
+-- The two cases of the difference below the period. Assumes nothing.
 use native.Mathlib.Omega.{arith}
 use borrow.Author.Needs.{needs}
 use Rattle.bch.proofs.tables.RootFills.{behind-small, behind-large}

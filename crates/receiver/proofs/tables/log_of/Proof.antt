@@ -2,7 +2,7 @@
 use Prim.Native.Nat.{_+_, _^_, _≤_}
 use native.Mathlib.Omega.{arith}
 use native.Mathlib.Decide.{ℕ-discrete}
-use mathlib.Core.Path.{_≡_, refl}
+use mathlib.Core.Path.{refl}
 use borrow.Author.Needs.{needs}
 use Rattle.galois.proofs.Primitive.{primitive-5-10}
 use Rattle.bch.proofs.tables.CodeTables.{logIn}

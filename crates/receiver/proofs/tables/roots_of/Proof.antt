@@ -1,4 +1,4 @@
--- This function meets its contract. Assumes nothing.
+-- The entry lies inside the slice, by how long the tables are. Assumes nothing.
 use Prim.Native.Nat.{ℕ, _+_}
 use mathlib.Core.Path.{ap}
 use borrow.Author.Needs.{needs}

@@ -1,5 +1,5 @@
--- This function meets its contract. Assumes nothing.
-use Prim.Native.Nat.{ℕ, _+_, _-_, _^_, _≤_}
+-- The first i powers stand again behind the period. Assumes nothing.
+use Prim.Native.Nat.{ℕ, _+_, _-_, _^_, _≤_, _<_}
 use mathlib.Core.Path.{_≡_, refl, ap}
 use native.Mathlib.Omega.{arith}
 use borrow.Author.Needs.{needs}
@@ -8,6 +8,7 @@ use Rattle.bch.proofs.tables.TableLoops.{powers-again, field-filled, roots-empt
 use lib.ListN.{length, getD, length-set}
 use Rattle.galois.proofs.Primitive.{Primitive, primitive-5-10}
 use mathlib.Core.Path.{subst}
+use Rattle.receiver.proofs.Places.{power-fits, power-scaled, step-fits, falls}
 use Rattle.receiver.proofs.tables.wrap_powers.Statement.{statement}
 use Rattle.receiver.proofs.tables.wrap_powers.Tie as tie
 
@@ -17,14 +18,28 @@ Inv-loop tables₀ m t period from i₀ tables i = (i ≤ 8) × (length tables �
 abbrev μ-loop : tie.MeasureT-loop
 μ-loop tables₀ m t period from i₀ tables i = 8 - i
 
+early : (s i : ℕ) → i < 8 → i < s + 8
+early s i h = omega arith
+
 loop-holds : tie.Need-loop-holds Inv-loop μ-loop
-loop-holds c = let s = c in let a = s .args in let m = a .c .m in let k : 2 ^ m - 1 ≡ 2 ^ m - 1 + 0 = omega arith in (omega arith, refl, subst (λ (j : ℕ). FieldPart m (stage m (a .c .t)) j (a .tables .now)) k (s .pre .1))
+loop-holds c =
+    let s = c in
+    let a = s .args in
+    let m = a .c .m in
+    let k : 2 ^ m - 1 ≡ 2 ^ m - 1 + 0 = omega arith in
+    (omega arith, refl, subst (λ (j : ℕ). FieldPart m (stage m (a .c .t)) j (a .tables .now)) k (s .pre .1))
 
 add-x : tie.Need-add-x Inv-loop μ-loop
-add-x c = search needs
+add-x c =
+    let o = c .before in
+    let k = o .before .pre .0 in
+    power-fits _ _ _ (k .size-most) (k .is-powers) (early _ _ (c .loop-test .taken))
 
 mul-x : tie.Need-mul-x Inv-loop μ-loop
-mul-x c = search needs
+mul-x c =
+    let o = c .before in
+    let k = o .before .pre .0 in
+    power-scaled _ _ _ (k .size-most) (k .is-powers) (early _ _ (c .loop-test .taken))
 
 slice-read-x : tie.Need-slice-read-x Inv-loop μ-loop
 slice-read-x c = search needs
@@ -42,19 +57,36 @@ slice-write-tables : tie.Need-slice-write-tables Inv-loop μ-loop
 slice-write-tables c = search needs
 
 add-i : tie.Need-add-i Inv-loop μ-loop
-add-i c = search needs
+add-i c =
+    step-fits 0 _ 1 (omega arith) (c .before .loop-test .taken) (omega arith)
 
 loop-less : tie.Need-loop-less Inv-loop μ-loop
-loop-less c = search needs
+loop-less c = falls _ _ (c .before .loop-test .taken)
 
 loop-again : tie.Need-loop-again Inv-loop μ-loop
-loop-again c = let s = c .before .before .before in let a = s .args in let m = a .c .m in let g : Primitive m = primitive-5-10 m (s .pre .0 .lawful .m-least) (s .pre .0 .lawful .m-most) in let l = c .before .before .loop in let k : a .c .powers + l .i ≡ 2 ^ m + l .i = omega arith in (omega arith, simp length-set (l .inv .1), powers-again m g (a .c .t) (l .i) _ _ (l .tables) (c .before .loop-test .taken) (omega arith) (ap (λ (j : ℕ). getD (l .tables) j 0) k) (l .inv .2))
+loop-again c =
+    let s = c .before .before .before in
+    let a = s .args in
+    let m = a .c .m in
+    let g : Primitive m = primitive-5-10 m (s .pre .0 .lawful .m-least) (s .pre .0 .lawful .m-most) in
+    let l = c .before .before .loop in
+    let k : a .c .powers + l .i ≡ 2 ^ m + l .i = omega arith in (
+      omega arith,
+      simp length-set (l .inv .1),
+      powers-again m g (a .c .t) (l .i) _ _ (l .tables) (c .before .loop-test .taken) (omega arith) (ap (λ (j : ℕ). getD (l .tables) j 0) k) (l .inv .2),
+    )
 
 same-length : tie.Need-same-length Inv-loop μ-loop
-same-length c = search needs
+same-length c = c .before .loop .inv .1
 
 returns : tie.Need-returns Inv-loop μ-loop
-returns c = let s = c .before .before in let a = s .args in let m = a .c .m in let l = c .before .loop in let e : l .i ≡ 8 = omega arith in (field-filled m (a .c .t) (l .i) (l .tables) (omega arith) e (l .inv .2), roots-empty m (a .c .t) (l .i) (l .tables) (omega arith) e (l .inv .2))
+returns c =
+    let s = c .before .before in
+    let a = s .args in
+    let m = a .c .m in
+    let l = c .before .loop in
+    let e : l .i ≡ 8 = omega arith in
+    (field-filled m (a .c .t) (l .i) (l .tables) (omega arith) e (l .inv .2), roots-empty m (a .c .t) (l .i) (l .tables) (omega arith) e (l .inv .2))
 
 pub wrap-powers-spec : {M : Type 1} → statement M
 wrap-powers-spec =

@@ -1,12 +1,9 @@
 -- Each half by its call. Assumes nothing.
-use Prim.Native.Nat.{ℕ, _+_, _/_, _%_, _^_, _≤_, _<_}
+use Prim.Native.Nat.{ℕ}
 use native.Mathlib.Omega.{arith}
-use mathlib.Core.Path.{_≡_, ap, _∙_}
-use mathlib.Core.List.{List}
-use lib.Bits.{bitXor}
+use mathlib.Core.Path.{ap, _∙_}
 use Rattle.galois.proofs.FieldTables.{powersOf}
 use Rattle.bch.proofs.tables.Placing.{lowerPart}
-use Rattle.chase.proofs.test_words.Doublings.{Doubled}
 use Rattle.receiver.proofs.test_words.double.Statement.{statement}
 use Rattle.receiver.proofs.test_words.double.Tie as tie
 use borrow.Author.Needs.{needs}
@@ -44,9 +41,14 @@ returns c =
     let s = c .before .before .before .before .before .before .before .before .before .before .before .before .before .before in
     let k = s .args .c in
     let small = s .pre .0 .0 .made .lawful .n-most in
-    let v = c .before .before .before .before .before .before .before .before .before .powers-of .ensures ∙ s .pre .0 .0 .field .powers (c .before .before .before .before .before .before .before .before .before .before .place-of .result) (omega (arith, c .before .before .before .before .before .before .before .before .before .before .place-of .ensures))
-    ∙ ap (λ (x : ℕ). lowerPart (k .t) (powersOf (k .m) x)) (c .before .before .before .before .before .before .before .before .before .before .place-of .ensures) in
-    (rw v at (c .before .before .before .before .before .before .before .double-xor .ensures), rw (c .before .before .before .held .ensures .0) at (c .before .before .double-add .ensures))
+    let v = c .before .before .before .before .before .before .before .before .before .powers-of .ensures
+    ∙ s .pre .0 .0 .field .powers (c .before .before .before .before .before .before .before .before .before .before .place-of .result)
+    (omega (arith, c .before .before .before .before .before .before .before .before .before .before .place-of .ensures))
+    ∙ ap (λ (x : ℕ). lowerPart (k .t) (powersOf (k .m) x))
+    (c .before .before .before .before .before .before .before .before .before .before .place-of .ensures) in (
+      rw v at (c .before .before .before .before .before .before .before .double-xor .ensures),
+      rw (c .before .before .before .held .ensures .0) at (c .before .before .double-add .ensures),
+    )
 
 pub double-spec : {M : Type 1} → statement M
 double-spec =

@@ -11,7 +11,8 @@ use Rattle.receiver.proofs.test_words.double_add.Tie as tie
 
 abbrev Inv-loop : tie.InvT-loop
 Inv-loop out₀ size v i₀ out i =
-    (i ≤ size) × (length out ≡ length out₀) × Holds (λ k. getD out₀ k 0) size out × ((k : ℕ) → k < i → getD out (size + k) 0 ≡ getD out₀ k 0 + v)
+    (i ≤ size) × (length out ≡ length out₀) × Holds (λ k. getD out₀ k 0) size out
+    × ((k : ℕ) → k < i → getD out (size + k) 0 ≡ getD out₀ k 0 + v)
 
 abbrev μ-loop : tie.MeasureT-loop
 μ-loop out₀ size v i₀ out i = size - i

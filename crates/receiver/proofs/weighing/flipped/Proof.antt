@@ -44,7 +44,8 @@ returns-3 : tie.Need-returns-3
 returns-3 c =
     let s = c .before .before .before .before .before .before in
     let a = s .args in
-    let h : getD (a .keys .at) (a .p - 1) 0 / 1024 < getD (reliabilities (a .s .now)) (a .x) 0 = omega (arith, c .if3 .taken, c .before .held .ensures .0, s .pre .1) in
+    let h : getD (a .keys .at) (a .p - 1) 0 / 1024 < getD (reliabilities (a .s .now)) (a .x) 0 =
+    omega (arith, c .if3 .taken, c .before .held .ensures .0, s .pre .1) in
     sym (strong-unflipped (a .s .now) (a .keys .at) (a .p) (s .pre .0) (omega arith) (a .j) (a .x) h)
 
 chosen-at-requires : tie.Need-chosen-at-requires

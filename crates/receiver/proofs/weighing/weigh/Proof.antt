@@ -16,7 +16,8 @@ use Rattle.receiver.proofs.weighing.weigh.Statement.{statement}
 use Rattle.receiver.proofs.weighing.weigh.Tie as tie
 
 abbrev Inv-loop : tie.InvT-loop
-Inv-loop s keys p j start places count q₀ sum₀ a₀ q sum a = (a ≤ count) × Weighs (reliabilities s) (flippedAt (take a (take count places)) (test p s j)) (hardBits s) q sum
+Inv-loop s keys p j start places count q₀ sum₀ a₀ q sum a =
+    (a ≤ count) × Weighs (reliabilities s) (flippedAt (take a (take count places)) (test p s j)) (hardBits s) q sum
 
 abbrev μ-loop : tie.MeasureT-loop
 μ-loop s keys p j start places count q₀ sum₀ a₀ q sum a = count - a
@@ -39,7 +40,8 @@ back c h =
     let l = c .before .before .before .before .loop in
     let x = c .before .before .entry-of .ensures in
     back-at (a .s .now) (a .keys .at) (a .p) (s .pre .0) (a .j) (a .f .at) (a .f .count) (l .a) (l .q) (l .sum)
-    (c .before .z-at .result) (s .pre .1 .0 .2) (omega arith) (omega arith) (rw x at (c .before .z-at .ensures .0)) (l .inv .1) (rw x at (sym h ∙ c .flipped .ensures))
+    (c .before .z-at .result) (s .pre .1 .0 .2) (omega arith) (omega arith) (rw x at (c .before .z-at .ensures .0)) (l .inv .1)
+    (rw x at (sym h ∙ c .flipped .ensures))
 
 -- .. and at another
 out : (c : tie.After-flipped Inv-loop μ-loop) → c .flipped .result ≡ false
@@ -50,10 +52,12 @@ out c h =
     let l = c .before .before .before .before .loop in
     let x = c .before .before .entry-of .ensures in
     out-at (a .s .now) (a .keys .at) (a .p) (s .pre .0) (a .j) (a .f .at) (a .f .count) (l .a) (l .q) (l .sum)
-    (c .before .z-at .result) (s .pre .1 .0 .2) (omega arith) (omega arith) (rw x at (c .before .z-at .ensures .0)) (l .inv .1) (rw x at (sym h ∙ c .flipped .ensures))
+    (c .before .z-at .result) (s .pre .1 .0 .2) (omega arith) (omega arith) (rw x at (c .before .z-at .ensures .0)) (l .inv .1)
+    (rw x at (sym h ∙ c .flipped .ensures))
 
 -- the weight so far is small
-few : (c : tie.After-flipped Inv-loop μ-loop) → (c .before .before .before .before .loop .q ≤ 1023) × (c .before .before .before .before .loop .sum ≤ 15345)
+few : (c : tie.After-flipped Inv-loop μ-loop)
+    → (c .before .before .before .before .loop .q ≤ 1023) × (c .before .before .before .before .loop .sum ≤ 15345)
 few c =
     let s = c .before .before .before .before .before .before .before in
     let a = s .args in
