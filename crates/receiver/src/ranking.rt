@@ -3,8 +3,10 @@
 ghost use mathlib.Core.Path.{_≡_};
 ghost use Prim.Native.Nat.{_/_, _%_, _<_, _≤_};
 ghost use lib.ListN.{length};
+ghost use Rattle.chase.specs.Word.{Symbols};
 ghost use Rattle.chase.proofs.ranking.Keys.{Weakest};
 ghost use Rattle.chase.proofs.ranking.Keys.{put as Keys·put};
+ghost use Rattle.chase.proofs.search.Ready.{Deep};
 
 // The least keys of a word, rising.
 pub struct Keys {
@@ -37,7 +39,7 @@ fn put(old: [u16; 8], k: u16) -> [u16; 8]
 }
 
 // The `size` least keys, in one pass over the symbols where they stand. (What stands behind them is of no meaning.)
-pub fn rank(s: &[u8], size: usize) -> Keys
+fn rank(s: &[u8], size: usize) -> Keys
     requires { ⌜ (length (now s) ≤ 1023) × (1 ≤ size) × (size ≤ 8) ⌝ }
     ensures { λ r. ⌜ (length (r .at) ≡ 8) × Weakest size (now (s .entry)) (r .at) ⌝ }
 {
@@ -53,6 +55,17 @@ pub fn rank(s: &[u8], size: usize) -> Keys
         i += 1;
     }
     Keys { at: keys }
+}
+
+// The keys of a word that is searched at depth p: as many as its p weak positions or the d smallest z ask for.
+pub fn keys_of(s: &[u8], d: usize, p: usize) -> Keys
+    requires { ⌜ Symbols (now s) × (length (now s) ≤ 1023) × (1 ≤ d) × (d ≤ 8) × (d ≤ length (now s)) × (p ≤ 6) × (p ≤ length (now s)) ⌝ }
+    ensures { λ r. ⌜ Deep d (now (s .entry)) (r .at) p ⌝ }
+{
+    if d < p {
+        return rank(s, p);
+    }
+    rank(s, d)
 }
 
 // The position that a key holds.

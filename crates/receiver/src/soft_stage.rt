@@ -107,21 +107,13 @@ fn tell(o: Outcome) -> Soft
     }
 }
 
-// How many keys a word needs: p for its weak positions, and d for A.
-fn more(d: usize, p: usize) -> usize
-    requires { ⌜ (d ≤ 8) × (p ≤ 8) ⌝ }
-    ensures { λ r. ⌜ (d ≤ r) × (p ≤ r) × (r ≤ 8) ⌝ }
-{
-    if d < p { p } else { d }
-}
-
 // The soft stage with tables that are filled: the outcome is known before the buffer is written.
 pub fn decode_word(c: Code, tables: &[u32], p: usize, s: &[u8], codeword: &mut [u8]) -> Outcome
     requires { ⌜ Filled c (now tables) × (p ≤ 6) × (length (now s) ≡ c .n) × (length (now codeword) ≡ c .n) × Symbols (now s) ⌝ }
     ensures { λ r. ⌜ (outcomeOf p (now (s .entry)) r ≡ softStage (codeOf c) p (now (s .entry))) × Sound (c .n) (r .pick) ⌝ }
     ensures { λ _. ⌜ now (codeword .exit) ≡ softWritten (softStage (codeOf c) p (now (s .entry))) (now (codeword .entry)) ⌝ }
 {
-    let keys = ranking::rank(s, more(c.distance(), p));
+    let keys = ranking::keys_of(s, c.distance(), p);
     let o = search::search(c, tables, s, keys, p);
     let found = o.pick.flips.found;
     if !found {
