@@ -12,7 +12,7 @@ use Rattle.bch.specs.Words.{Distinct, flippedAt}
 use Rattle.bch.specs.Code.{Code, designDistance}
 use Rattle.bch.proofs.logarithms.LogAnswers.{syndromesOf}
 use Rattle.bch.proofs.logarithms.LogLocator.{locateIn}
-use Rattle.bch.proofs.tables.Placing.{positions, Placed}
+use Rattle.bch.proofs.tables.Placing.{Placed}
 use Rattle.bch.proofs.logarithms.Seeking.{Next}
 use Rattle.bch.proofs.codes.Settings.{Lawful}
 use Rattle.chase.specs.Soft.{hardBits, reliabilities, candidate, tried}

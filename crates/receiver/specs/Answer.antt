@@ -3,9 +3,9 @@ use Prim.Native.Nat.{ℕ}
 use mathlib.Core.Logic.{_⊎_, inl, inr}
 use mathlib.Core.List.{List}
 use mathlib.Core.Option.{Option, none, some}
-use Rattle.chase.specs.Soft.{Answer, lost, fair, sure, lostAnswer}
+use Rattle.chase.specs.Soft.{Answer, fair, sure, lostAnswer}
 use Rattle.take_format.specs.Refusal.{Refusal}
-use Rattle.take_format.specs.Batch.{markByte, Totals}
+use Rattle.take_format.specs.Batch.{Totals}
 use Rattle.refusal.specs.Checked.{refusalOf}
 use Rattle.receiver.specs.declared.Hard.{Hard}
 use Rattle.receiver.specs.declared.Hard.the-variants.{Refused, Lost, Found}
@@ -29,19 +29,6 @@ softOf (Soft·Refused r) word = inl (refusalOf r)
 softOf (Soft·Lost tries) word = inr (lostAnswer tries)
 softOf (Fair L margin q j tries) word = inr (record { mark = fair; distance = L; margin = margin; flips = q; place = j; tries = tries; word = word })
 softOf (Sure L margin q j tries) word = inr (record { mark = sure; distance = L; margin = margin; flips = q; place = j; tries = tries; word = word })
-
--- the mark byte of an answer, 0 lost, 1 fair, 2 sure, and its tries; a refusal has 0 and 0
-unfoldable pub markOf : Soft → ℕ
-markOf (Soft·Refused r) = 0
-markOf (Soft·Lost tries) = markByte lost
-markOf (Fair L margin q j tries) = markByte fair
-markOf (Sure L margin q j tries) = markByte sure
-
-unfoldable pub triesOf : Soft → ℕ
-triesOf (Soft·Refused r) = 0
-triesOf (Soft·Lost tries) = tries
-triesOf (Fair L margin q j tries) = tries
-triesOf (Sure L margin q j tries) = tries
 
 -- the five totals
 abbrev pub totalsTold : struct.Totals → Totals

@@ -1,8 +1,7 @@
 // Several words of one code, decoded with tables that are filled once.
-ghost use Prim.Native.Nat.{_+_, _-_, _*_, _^_, _<_, _≤_};
+ghost use Prim.Native.Nat.{_+_, _-_, _*_, _<_, _≤_};
 ghost use mathlib.Core.Path.{_≡_};
 ghost use lib.ListN.{length, replicate};
-ghost use Rattle.galois.proofs.FieldTables.{Zeros};
 ghost use Rattle.chase.specs.Soft.{softStage};
 ghost use Rattle.chase.specs.Word.{Symbols};
 ghost use Rattle.take_format.specs.Batch.{message as Batch·message, markByte, answersTo, messagesOf, marksOf, totalsOf};

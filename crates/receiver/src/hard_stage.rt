@@ -3,7 +3,7 @@ ghost use mathlib.Core.Path.{_≡_};
 ghost use mathlib.Core.Logic.{inr};
 ghost use mathlib.Core.Bool.{true};
 ghost use Prim.Native.Nat.{_+_, _-_, _*_, _^_, _<_, _≤_};
-ghost use lib.ListN.{length, take};
+ghost use lib.ListN.{length};
 ghost use Rattle.galois.proofs.FieldTables.{Zeros};
 ghost use Rattle.bch.specs.Words.{Bits, flippedAt};
 ghost use Rattle.bch.specs.Hard.{hardFlips, hardWritten};

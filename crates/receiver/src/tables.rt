@@ -8,11 +8,11 @@
 // A sum of exponents is folded once, and is then at most seven beyond the period: so the first eight entries stand again behind it.
 ghost use mathlib.Core.Path.{_≡_};
 ghost use mathlib.Core.Logic.{_≢_};
-ghost use Prim.Native.Nat.{ℕ, _+_, _-_, _*_, _/_, _%_, _<_, _≤_, _^_};
-ghost use lib.ListN.{length, getD};
+ghost use Prim.Native.Nat.{_+_, _-_, _*_, _%_, _<_, _≤_, _^_};
+ghost use lib.ListN.{length};
 ghost use Rattle.galois.specs.Field.{alpha, double, poly};
 ghost use Rattle.galois.proofs.FieldTables.{Zeros};
-ghost use Rattle.bch.proofs.tables.CodeTables.{folded, reduced as CodeTables·reduced, logIn, powersIn, rootsIn, PairRoots, TrioRoots, CodeTables};
+ghost use Rattle.bch.proofs.tables.CodeTables.{folded, reduced as CodeTables·reduced, logIn, powersIn, rootsIn, PairRoots, TrioRoots};
 ghost use Rattle.bch.proofs.tables.RootFills.{behind as RootFills·behind};
 ghost use Rattle.bch.proofs.tables.TableFills.{FieldPart, stage, Adds};
 ghost use Rattle.bch.proofs.tables.TableLoops.{FieldFilled, RootPart, Rootless};

@@ -1,5 +1,5 @@
 -- The record of a code, and what the check of the settings answers. Assumes nothing.
-use Prim.Native.Nat.{ℕ, _+_, _-_, _*_, _^_, _≤_}
+use Prim.Native.Nat.{_+_, _-_, _*_, _^_, _≤_}
 use mathlib.Core.Path.{_≡_}
 use mathlib.Core.Logic.{_⊎_, inl, inr}
 use Rattle.galois.specs.Field.{poly}

@@ -236,20 +236,6 @@ words-checked c p W symbols messages marks e =
       are-symbols = symbols-none 0 symbols hb;
     }
 
--- what all of them leave
-pub record WordsAccepted (c : Code) (p W : ℕ) (symbols messages marks : List ℕ) : Type 0 where
-  pub isCode : IsCode c
-  pub sound : WordsChecked c p W symbols messages marks
-
-pub words-accepted : (c : Code) (p W : ℕ) (symbols messages marks : List ℕ) → wordsRefusal c p W symbols messages marks ≡ none
-    → WordsAccepted c p W symbols messages marks
-unfolding wordsRefusal
-words-accepted c p W symbols messages marks e =
-    let check = wordsCheck c p W symbols (length messages) (length marks) in
-    let (s, call) = first-append (settings c) (check ∷ []) e in
-    let (h, _) = first-cons check [] call in
-    record { isCode = settings-code c s; sound = words-checked c p W symbols messages marks h }
-
 -- ---- what holds of a refusal
 
 -- a claim about the refusal, where there is one
