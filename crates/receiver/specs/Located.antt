@@ -1,11 +1,16 @@
 -- The positions that are located, as a record. Cited by the contracts of private functions alone. Assumes nothing.
 use Prim.Native.Nat.{ℕ, _≤_, _<_}
 use mathlib.Core.Path.{_≡_}
+use mathlib.Core.Bool.{true}
 use mathlib.Core.List.{List}
 use mathlib.Core.Option.{Option}
 use lib.ListN.{length, getD, take}
+use Rattle.bch.specs.Words.{Bits}
+use Rattle.bch.proofs.logarithms.LogAnswers.{syndromesOf}
 use Rattle.bch.proofs.logarithms.LogBounds.{Syndromes}
-use Rattle.bch.proofs.tables.Placing.{positions}
+use Rattle.bch.proofs.logarithms.Repairs.{Repairs}
+use Rattle.bch.proofs.tables.Placing.{Placed, positions}
+use Rattle.refusal.specs.Named.{codeOf}
 use Rattle.refusal.specs.declared.Code as refusal
 use Rattle.receiver.specs.declared.locate.Flips.{Flips}
 
@@ -20,3 +25,9 @@ Located f o = (positions (f .found) (f .count) (f .at) ≡ o) × (length (f .at)
 -- each number is the first t syndromes of a word
 abbrev pub AreSyndromes : refusal.Code → List ℕ → Type 0
 AreSyndromes c sums = (j : ℕ) → j < length sums → Syndromes (c .m) (c .t) (getD sums j 0)
+
+-- they are where the hard stage flips, for every word of these syndromes
+abbrev pub Repairing : refusal.Code → ℕ → Flips → Type 0
+Repairing c s f =
+    (xs : List ℕ) → length xs ≡ c .n → Bits xs → s ≡ syndromesOf (codeOf c) xs
+    → Repairs (codeOf c) xs (f .found) (f .count) (f .at) × (f .found ≡ true → Placed (c .n) (f .count) (f .at))

@@ -5,44 +5,18 @@ ghost use lib.ListN.{length, replicate};
 ghost use Rattle.chase.specs.Soft.{softStage};
 ghost use Rattle.chase.specs.Word.{Symbols};
 ghost use Rattle.take_format.specs.Batch.{message as Batch·message, markByte, answersTo, messagesOf, marksOf, totalsOf};
-ghost use Rattle.take_format.specs.Calls.{answered, unlessRefused};
-ghost use Rattle.take_format.specs.Refusal.{wordsCheck};
 ghost use Rattle.take_format.proofs.checks.RefusalLaws.{WordsChecked};
-ghost use Rattle.refusal.specs.Checked.{checked};
 ghost use Rattle.refusal.specs.Named.{codeOf, Made};
-ghost use Rattle.receiver.specs.Answer.{totalsTold, wordsOf};
+ghost use Rattle.receiver.specs.Answer.{totalsTold};
 ghost use Rattle.receiver.specs.Search.{markIn};
 ghost use Rattle.receiver.specs.Tables.{Filled};
 use crate::Totals;
-use crate::Words;
 use crate::add;
 use crate::hard_stage;
 use crate::search::Outcome;
 use crate::soft_stage;
 use crate::tables;
-use refusal::Check;
 use refusal::Code;
-use refusal::refuse;
-
-// The depth, the symbols of all words, and the room for their messages and marks: 4, 6, 7, 9.
-fn check(c: Code, p: usize, words: usize, symbols: &[u8], messages: usize, marks: usize) -> Check
-    requires { ⌜ Made c × (words ≤ 65535) ⌝ }
-    ensures { λ r. ⌜ checked r ≡ wordsCheck (codeOf c) p words (now (symbols .entry)) messages marks ⌝ }
-{
-    if 6 < p {
-        return refuse(refusal::REFUSED_DEPTH, 0);
-    }
-    if symbols.len() != words * c.length() {
-        return refuse(refusal::REFUSED_INPUT_LENGTH, 0);
-    }
-    if messages != words * c.message_length() {
-        return refuse(refusal::REFUSED_OUTPUT_LENGTH, 0);
-    }
-    if marks != words {
-        return refuse(refusal::REFUSED_OUTPUT_LENGTH, 0);
-    }
-    refusal::at_most(refusal::REFUSED_SYMBOL, 31, symbols)
-}
 
 // Writes zeros.
 fn clear(message: &mut [u8])
@@ -141,7 +115,7 @@ fn decode_all(
 
 // All words, with tables of its own, which have room for m = 10, and a codeword that each word is written to before its message is taken
 // from it.
-fn decode_with(c: Code, p: usize, symbols: &[u8], messages: &mut [u8], marks: &mut [u8]) -> Totals
+pub fn decode(c: Code, p: usize, symbols: &[u8], messages: &mut [u8], marks: &mut [u8]) -> Totals
     requires { ⌜ Made c × (length (now marks) ≤ 65535) ⌝ }
     requires { ⌜ WordsChecked (codeOf c) p (length (now marks)) (now symbols) (now messages) (now marks) ⌝ }
     ensures { λ r. ⌜ totalsTold r ≡ totalsOf (answersTo (codeOf c) p (length (now (marks .entry))) (now (symbols .entry))) ⌝ }
@@ -154,24 +128,4 @@ fn decode_with(c: Code, p: usize, symbols: &[u8], messages: &mut [u8], marks: &m
     let n = c.length();
     let mut codeword = [0u8; 1023];
     decode_all(c, &tables, p, symbols, &mut codeword[..n], messages, marks)
-}
-
-// The depth, the symbols and the buffers are checked, 4, 6, 7, 9, and then all words decoded.
-pub fn decode(
-    c: Code,
-    p: usize,
-    words: usize,
-    symbols: &[u8],
-    messages: &mut [u8],
-    marks: &mut [u8],
-) -> Words
-    requires { ⌜ Made c × (words ≤ 65535) ⌝ }
-    ensures { λ r. ⌜ wordsOf r ≡ answered (wordsCheck (codeOf c) p words (now (symbols .entry)) (length (now (messages .entry))) (length (now (marks .entry)))) (totalsOf (answersTo (codeOf c) p words (now (symbols .entry)))) ⌝ }
-    ensures { λ _. ⌜ now (messages .exit) ≡ unlessRefused (wordsCheck (codeOf c) p words (now (symbols .entry)) (length (now (messages .entry))) (length (now (marks .entry)))) (now (messages .entry)) (messagesOf (codeOf c) (answersTo (codeOf c) p words (now (symbols .entry)))) ⌝ }
-    ensures { λ _. ⌜ now (marks .exit) ≡ unlessRefused (wordsCheck (codeOf c) p words (now (symbols .entry)) (length (now (messages .entry))) (length (now (marks .entry)))) (now (marks .entry)) (marksOf (answersTo (codeOf c) p words (now (symbols .entry)))) ⌝ }
-{
-    match check(c, p, words, symbols, messages.len(), marks.len()) {
-        Check::Refused(r) => Words::Refused(r),
-        Check::Passed => Words::Decoded(decode_with(c, p, symbols, messages, marks)),
-    }
 }

@@ -2,7 +2,7 @@
 ghost use mathlib.Core.Path.{_≡_};
 ghost use mathlib.Core.Logic.{inr};
 ghost use mathlib.Core.Bool.{true};
-ghost use Prim.Native.Nat.{_+_, _-_, _*_, _^_, _<_, _≤_};
+ghost use Prim.Native.Nat.{_+_, _*_, _^_, _<_, _≤_};
 ghost use lib.ListN.{length};
 ghost use Rattle.galois.proofs.FieldTables.{Zeros};
 ghost use Rattle.bch.specs.Words.{Bits, flippedAt};
@@ -10,17 +10,16 @@ ghost use Rattle.bch.specs.Hard.{hardFlips, hardWritten};
 ghost use Rattle.bch.proofs.logarithms.LogAnswers.{syndromesOf};
 ghost use Rattle.bch.proofs.tables.Placing.{Placed};
 ghost use Rattle.bch.proofs.logarithms.Repairs.{Repairs};
-ghost use Rattle.bch.proofs.tables.SyndromeSums.{PowersAt};
-ghost use Rattle.take_format.specs.Refusal.{bitsCheck};
-ghost use Rattle.take_format.specs.Calls.{answered, unlessRefused};
+ghost use Rattle.bch.proofs.logarithms.LogBounds.{Syndromes};
+ghost use Rattle.bch.proofs.tables.TableLoops.{Rootless};
 ghost use Rattle.refusal.specs.Named.{codeOf, Made};
 ghost use Rattle.receiver.specs.Answer.{hardOf};
-ghost use Rattle.receiver.specs.Located.{flipsOf};
+ghost use Rattle.receiver.specs.Located.{flipsOf, Repairing};
+ghost use Rattle.receiver.specs.Tables.{Fielded};
 use crate::Hard;
 use crate::locate;
 use crate::locate::Flips;
 use crate::tables;
-use refusal::Check;
 use refusal::Code;
 
 // x where the bit is 1, and 0 where it is 0. (A mask: a choice would become a branch for the positions that are left over where the
@@ -32,21 +31,35 @@ pub fn where_set(bit: u8, x: u32) -> u32
     (bit as u32) * 4294967295 & x
 }
 
-// The first t syndromes in one number, in one pass without branches; the powers are by position.
-fn syndromes(c: Code, powers: &[u32], bits: &[u8]) -> u32
-    requires { ⌜ Made c × PowersAt (c .m) (c .t) (now powers) × (2 ^ c .m - 1 ≤ length (now powers)) ⌝ }
-    requires { ⌜ (length (now bits) ≡ c .n) × Bits (now bits) ⌝ }
+// The first t syndromes in one number, in one pass without branches.
+fn syndromes(c: Code, tables: &[u32], bits: &[u8]) -> u32
+    requires { ⌜ Fielded c (now tables) × (length (now bits) ≡ c .n) × Bits (now bits) ⌝ }
     ensures { λ r. ⌜ r ≡ syndromesOf (codeOf c) (now (bits .entry)) ⌝ }
 {
     let m = c.m;
     let t = c.t;
+    let from = c.powers;
     let mut acc: u32 = 0;
     let mut i = 0;
     while i < bits.len() {
-        acc = acc ^ where_set(bits[i], powers[i]);
+        acc = acc ^ where_set(bits[i], tables[from + i]);
         i += 1;
     }
     acc
+}
+
+// The positions to flip for the syndromes s. The roots are filled only where there is more than one error.
+fn located(c: Code, tables: &mut [u32], s: u32) -> Flips
+    requires { ⌜ Fielded c (now tables) × Rootless (c .m) (now tables) × Syndromes (c .m) (c .t) s ⌝ }
+    ensures { λ r. ⌜ Repairing c s r ⌝ }
+{
+    if locate::rest_of(c, tables, s) == 0 {
+        return locate::few(c, tables, s);
+    }
+    tables::fill_roots(c, tables);
+    let sums = [s];
+    let e = locate::next(c, tables, &sums, 0);
+    e.flips
 }
 
 // Copies the bits.
@@ -92,7 +105,7 @@ fn write(c: Code, f: Flips, bits: &[u8], codeword: &mut [u8]) -> Hard
     Hard::Found(f.count)
 }
 
-// The hard stage, with room for its tables. The roots are filled only where there is more than one error.
+// The hard stage, with room for its tables.
 fn decode_in(c: Code, tables: &mut [u32], bits: &[u8], codeword: &mut [u8]) -> Hard
     requires { ⌜ Made c × (3 * 2 ^ c .m + 16 ≤ length (now tables)) × Zeros (now tables) ⌝ }
     requires { ⌜ (length (now bits) ≡ c .n) × (length (now codeword) ≡ c .n) × Bits (now bits) ⌝ }
@@ -100,20 +113,13 @@ fn decode_in(c: Code, tables: &mut [u32], bits: &[u8], codeword: &mut [u8]) -> H
     ensures { λ _. ⌜ now (codeword .exit) ≡ hardWritten (codeOf c) (now (bits .entry)) (now (codeword .entry)) ⌝ }
 {
     tables::fill_field(c, tables);
-    let from = c.powers;
-    let s = syndromes(c, &tables[from..], bits);
-    if locate::rest_of(c, tables, s) == 0 {
-        let f = locate::few(c, tables, s);
-        return write(c, f, bits, codeword);
-    }
-    tables::fill_roots(c, tables);
-    let sums = [s];
-    let e = locate::next(c, tables, &sums, 0);
-    write(c, e.flips, bits, codeword)
+    let s = syndromes(c, tables, bits);
+    let f = located(c, tables, s);
+    write(c, f, bits, codeword)
 }
 
 // The hard stage, with tables of its own, as large as m asks for.
-fn decode_with(c: Code, bits: &[u8], codeword: &mut [u8]) -> Hard
+pub fn decode(c: Code, bits: &[u8], codeword: &mut [u8]) -> Hard
     requires { ⌜ Made c × (length (now bits) ≡ c .n) × (length (now codeword) ≡ c .n) × Bits (now bits) ⌝ }
     ensures { λ r. ⌜ hardOf r ≡ inr (hardFlips (codeOf c) (now (bits .entry))) ⌝ }
     ensures { λ _. ⌜ now (codeword .exit) ≡ hardWritten (codeOf c) (now (bits .entry)) (now (codeword .entry)) ⌝ }
@@ -128,17 +134,4 @@ fn decode_with(c: Code, bits: &[u8], codeword: &mut [u8]) -> Hard
     }
     let mut tables = [0u32; 3088];
     decode_in(c, &mut tables, bits, codeword)
-}
-
-// The bits and the room for the codeword are checked, 6, 7, 8, and then decoded.
-pub fn decode(c: Code, bits: &[u8], codeword: &mut [u8]) -> Hard
-    requires { ⌜ Made c ⌝ }
-    ensures { λ r. ⌜ hardOf r ≡ answered (bitsCheck (c .n) (c .n) (now (bits .entry)) (length (now (codeword .entry)))) (hardFlips (codeOf c) (now (bits .entry))) ⌝ }
-    ensures { λ _. ⌜ now (codeword .exit) ≡ unlessRefused (bitsCheck (c .n) (c .n) (now (bits .entry)) (length (now (codeword .entry)))) (now (codeword .entry)) (hardWritten (codeOf c) (now (bits .entry)) (now (codeword .entry))) ⌝ }
-{
-    let n = c.length();
-    match refusal::bits(n, n, bits, codeword.len()) {
-        Check::Refused(r) => Hard::Refused(r),
-        Check::Passed => decode_with(c, bits, codeword),
-    }
 }

@@ -18,7 +18,7 @@
 //         receiver::Words::Refused(r) => { .. }
 //     }
 //
-// A call checks its settings, which name a code (`refusal`), and what else it is given; then it fills that code's tables (`tables`). The hard
+// A call checks its settings and what else it is given, which names a code (`refusal`), and fills that code's tables (`tables`). The hard
 // stage adds up the syndromes S1, S3, S5 (`hard_stage`), finds the positions to flip (`locate`) and only then writes. The soft stage ranks the
 // symbols (`ranking`), has the syndromes and the weights of test words without writing them out (`test_words`), locates and weighs one test
 // word after the other (`search`, `weighing`) and only then writes (`soft_stage`). Several words share their tables (`all_words`). What has a
@@ -57,7 +57,7 @@ pub fn decode_hard(m: usize, t: usize, n: usize, bits: &[u8], codeword: &mut [u8
     ensures { λ r. ⌜ hardOf r ≡ hardAnswer (code m t n) (now (bits .entry)) (now (codeword .entry)) ⌝ }
     ensures { λ _. ⌜ now (codeword .exit) ≡ hardBuffer (code m t n) (now (bits .entry)) (now (codeword .entry)) ⌝ }
 {
-    match refusal::settings(m, t, n) {
+    match refusal::of_word(m, t, n, bits, codeword.len()) {
         Named::Refused(r) => Hard::Refused(r),
         Named::Code(c) => hard_stage::decode(c, bits, codeword),
     }
@@ -100,7 +100,7 @@ pub fn decode_soft(
     ensures { λ r. ⌜ softOf r (now (codeword .exit)) ≡ softAnswer (code m t n) depth (now (symbols .entry)) (now (codeword .entry)) ⌝ }
     ensures { λ _. ⌜ now (codeword .exit) ≡ softBuffer (code m t n) depth (now (symbols .entry)) (now (codeword .entry)) ⌝ }
 {
-    match refusal::settings(m, t, n) {
+    match refusal::of_symbols(m, t, n, depth, symbols, codeword.len()) {
         Named::Refused(r) => Soft::Refused(r),
         Named::Code(c) => soft_stage::decode(c, depth, symbols, codeword),
     }
@@ -182,8 +182,8 @@ pub fn decode_words(
     ensures { λ _. ⌜ now (messages .exit) ≡ messagesBuffer (code m t n) depth words (now (symbols .entry)) (now (messages .entry)) (now (marks .entry)) ⌝ }
     ensures { λ _. ⌜ now (marks .exit) ≡ marksBuffer (code m t n) depth words (now (symbols .entry)) (now (messages .entry)) (now (marks .entry)) ⌝ }
 {
-    match refusal::settings(m, t, n) {
+    match refusal::of_words(m, t, n, depth, words, symbols, messages.len(), marks.len()) {
         Named::Refused(r) => Words::Refused(r),
-        Named::Code(c) => all_words::decode(c, depth, words as usize, symbols, messages, marks),
+        Named::Code(c) => Words::Decoded(all_words::decode(c, depth, symbols, messages, marks)),
     }
 }

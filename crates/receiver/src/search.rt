@@ -180,8 +180,7 @@ pub fn search(c: Code, tables: &[u32], s: &[u8], keys: Keys, p: usize) -> Outcom
     requires { ⌜ Ready c (now tables) (now s) (keys .at) p ⌝ }
     ensures { λ r. ⌜ (outcomeOf p (now (s .entry)) r ≡ softStage (codeOf c) p (now (s .entry))) × Sound (c .n) (r .pick) ⌝ }
 {
-    let from = c.powers;
-    let base = test_words::syndromes(c, &tables[from..], s);
+    let base = test_words::syndromes(c, tables, s);
     let sums = [base];
     let weights = [0u32];
     let o = try_on(c, tables, s, keys, p, &sums, &weights, untried());

@@ -10,8 +10,6 @@ ghost use Rattle.bch.proofs.tables.Placing.{Placed};
 ghost use Rattle.chase.specs.Soft.{hardBits, testWord, softStage, softWritten};
 ghost use Rattle.chase.specs.Word.{test, Symbols};
 ghost use Rattle.chase.proofs.search.Ready.{Ready, placesOf};
-ghost use Rattle.take_format.specs.Refusal.{symbolsCheck};
-ghost use Rattle.take_format.specs.Calls.{answered, unlessRefused};
 ghost use Rattle.refusal.specs.Named.{codeOf, Made};
 ghost use Rattle.receiver.specs.Answer.{softOf};
 ghost use Rattle.receiver.specs.Located.{flipsOf};
@@ -25,7 +23,6 @@ use crate::ranking::Keys;
 use crate::search;
 use crate::search::Outcome;
 use crate::tables;
-use refusal::Check;
 use refusal::Code;
 
 // The hard bits of the symbols.
@@ -136,7 +133,7 @@ fn decode_in(c: Code, tables: &mut [u32], p: usize, s: &[u8], codeword: &mut [u8
 }
 
 // The soft stage, with tables of its own, as large as m asks for.
-fn decode_with(c: Code, p: usize, s: &[u8], codeword: &mut [u8]) -> Soft
+pub fn decode(c: Code, p: usize, s: &[u8], codeword: &mut [u8]) -> Soft
     requires { ⌜ Made c × (p ≤ 6) × (length (now s) ≡ c .n) × (length (now codeword) ≡ c .n) × Symbols (now s) ⌝ }
     ensures { λ r. ⌜ softOf r (now (codeword .exit)) ≡ inr (softStage (codeOf c) p (now (s .entry))) ⌝ }
     ensures { λ _. ⌜ now (codeword .exit) ≡ softWritten (softStage (codeOf c) p (now (s .entry))) (now (codeword .entry)) ⌝ }
@@ -151,16 +148,4 @@ fn decode_with(c: Code, p: usize, s: &[u8], codeword: &mut [u8]) -> Soft
     }
     let mut tables = [0u32; 3088];
     decode_in(c, &mut tables, p, s, codeword)
-}
-
-// The depth, the symbols and the room for the codeword are checked, 4, 6, 7, 9, and then decoded.
-pub fn decode(c: Code, p: usize, s: &[u8], codeword: &mut [u8]) -> Soft
-    requires { ⌜ Made c ⌝ }
-    ensures { λ r. ⌜ softOf r (now (codeword .exit)) ≡ answered (symbolsCheck p (c .n) (now (s .entry)) (length (now (codeword .entry)))) (softStage (codeOf c) p (now (s .entry))) ⌝ }
-    ensures { λ _. ⌜ now (codeword .exit) ≡ unlessRefused (symbolsCheck p (c .n) (now (s .entry)) (length (now (codeword .entry)))) (now (codeword .entry)) (softWritten (softStage (codeOf c) p (now (s .entry))) (now (codeword .entry))) ⌝ }
-{
-    match refusal::symbols(p, c.length(), s, codeword.len()) {
-        Check::Refused(r) => Soft::Refused(r),
-        Check::Passed => decode_with(c, p, s, codeword),
-    }
 }

@@ -2,10 +2,13 @@
 use Prim.Native.Nat.{_+_, _-_, _*_, _^_, _≤_}
 use mathlib.Core.Path.{_≡_}
 use mathlib.Core.Logic.{_⊎_, inl, inr}
+use mathlib.Core.List.{[], _∷_, _++_}
+use mathlib.Core.Option.{Option}
 use Rattle.galois.specs.Field.{poly}
 use Rattle.bch.specs.Code.{Code, code, messageLength, designDistance}
 use Rattle.bch.proofs.codes.Settings.{Lawful}
-use Rattle.take_format.specs.Refusal.{Refusal}
+use Rattle.take_format.specs.Refusal.{Refusal, firstOf, settings}
+use Rattle.take_format.specs.Calls.{answered}
 use Rattle.refusal.specs.Checked.{refusalOf}
 use Rattle.refusal.specs.declared.Code as struct
 use Rattle.refusal.specs.declared.Named.{Named}
@@ -34,6 +37,10 @@ codeOf c = code (c .m) (c .t) (c .n)
 unfoldable pub namedOf : Named → Refusal ⊎ struct.Code
 namedOf (Refused r) = inl (refusalOf r)
 namedOf (Named·Code c) = inr c
+
+-- what the settings of a code name, where a later check passes too
+abbrev pub namedBy : Code → Option Refusal → Refusal ⊎ struct.Code
+namedBy c later = answered (firstOf (settings c ++ later ∷ [])) (recordOf c)
 
 -- a record that is that of a code, for which the laws hold. Cited by the contracts of private functions alone
 pub record Made (c : struct.Code) : Type 0 where

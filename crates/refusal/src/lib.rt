@@ -5,12 +5,12 @@ ghost use mathlib.Core.Logic.{inl};
 ghost use Prim.Native.Nat.{_*_, _≤_, _^_};
 ghost use lib.ListN.{drop};
 ghost use Rattle.galois.specs.Field.{poly};
-ghost use Rattle.bch.specs.Code.{code};
-ghost use Rattle.take_format.specs.Refusal.{firstOf, refused, unlessAtMost, bitsCheck, symbolsCheck};
+ghost use Rattle.bch.specs.Code.{code, messageLength};
+ghost use Rattle.take_format.specs.Refusal.{firstOf, refused, unlessAtMost, bitsCheck, symbolsCheck, wordsCheck};
 ghost use Rattle.take_format.specs.Refusal.{settings as Refusal·settings};
 ghost use Rattle.take_format.specs.Calls.{answered};
 ghost use Rattle.refusal.specs.Checked.{checked, AtMost};
-ghost use Rattle.refusal.specs.Named.{namedOf, recordOf};
+ghost use Rattle.refusal.specs.Named.{namedOf, namedBy, recordOf, codeOf, Made};
 
 // The numbers, by their cause.
 pub const REFUSED_M: usize = 1;
@@ -218,8 +218,8 @@ pub fn at_most(number: usize, most: u8, bytes: &[u8]) -> Check
     at_most_from(number, most, bytes, 0)
 }
 
-// The k bits that a call takes, and the room of n bytes that it writes to: 6, 7, 8.
-pub fn bits(k: usize, n: usize, bits: &[u8], room: usize) -> Check
+// k bits, and room for a codeword of n: 6, 7, 8.
+fn bits(k: usize, n: usize, bits: &[u8], room: usize) -> Check
     ensures { λ r. ⌜ checked r ≡ bitsCheck k n (now (bits .entry)) room ⌝ }
 {
     if bits.len() != k {
@@ -231,8 +231,8 @@ pub fn bits(k: usize, n: usize, bits: &[u8], room: usize) -> Check
     at_most(REFUSED_BIT, 1, bits)
 }
 
-// The depth, the n symbols that a call takes, and the room of n bytes that it writes to: 4, 6, 7, 9.
-pub fn symbols(depth: usize, n: usize, symbols: &[u8], room: usize) -> Check
+// A depth, n symbols, and room for a codeword of n: 4, 6, 7, 9.
+fn symbols(depth: usize, n: usize, symbols: &[u8], room: usize) -> Check
     ensures { λ r. ⌜ checked r ≡ symbolsCheck depth n (now (symbols .entry)) room ⌝ }
 {
     if 6 < depth {
@@ -245,4 +245,83 @@ pub fn symbols(depth: usize, n: usize, symbols: &[u8], room: usize) -> Check
         return refuse(REFUSED_OUTPUT_LENGTH, 0);
     }
     at_most(REFUSED_SYMBOL, 31, symbols)
+}
+
+// A depth p, the symbols of so many words, and room for their messages and marks: 4, 6, 7, 9.
+fn words(c: Code, p: usize, words: usize, all: &[u8], messages: usize, marks: usize) -> Check
+    requires { ⌜ Made c × (words ≤ 65535) ⌝ }
+    ensures { λ r. ⌜ checked r ≡ wordsCheck (codeOf c) p words (now (all .entry)) messages marks ⌝ }
+{
+    if 6 < p {
+        return refuse(REFUSED_DEPTH, 0);
+    }
+    if all.len() != words * c.length() {
+        return refuse(REFUSED_INPUT_LENGTH, 0);
+    }
+    if messages != words * c.message_length() {
+        return refuse(REFUSED_OUTPUT_LENGTH, 0);
+    }
+    if marks != words {
+        return refuse(REFUSED_OUTPUT_LENGTH, 0);
+    }
+    at_most(REFUSED_SYMBOL, 31, all)
+}
+
+// The code, where a later check passes too.
+fn unless_refused(later: Check, c: Code) -> Named
+    ensures { λ r. ⌜ namedOf r ≡ answered (checked later) c ⌝ }
+{
+    match later {
+        Check::Refused(r) => Named::Refused(r),
+        Check::Passed => Named::Code(c),
+    }
+}
+
+// The code of a call that takes a message's bits, with room for a codeword: 1, 2, 3, 6, 7, 8.
+pub fn of_message(m: usize, t: usize, n: usize, message: &[u8], room: usize) -> Named
+    ensures { λ r. ⌜ namedOf r ≡ namedBy (code m t n) (bitsCheck (messageLength (code m t n)) n (now (message .entry)) room) ⌝ }
+{
+    match settings(m, t, n) {
+        Named::Refused(r) => Named::Refused(r),
+        Named::Code(c) => unless_refused(bits(c.message_length(), n, message, room), c),
+    }
+}
+
+// Of one that takes a word's bits: 1, 2, 3, 6, 7, 8.
+pub fn of_word(m: usize, t: usize, n: usize, word: &[u8], room: usize) -> Named
+    ensures { λ r. ⌜ namedOf r ≡ namedBy (code m t n) (bitsCheck n n (now (word .entry)) room) ⌝ }
+{
+    match settings(m, t, n) {
+        Named::Refused(r) => Named::Refused(r),
+        Named::Code(c) => unless_refused(bits(n, n, word, room), c),
+    }
+}
+
+// Of one that takes a word's symbols and a depth: 1, 2, 3, 4, 6, 7, 9.
+pub fn of_symbols(m: usize, t: usize, n: usize, depth: usize, word: &[u8], room: usize) -> Named
+    ensures { λ r. ⌜ namedOf r ≡ namedBy (code m t n) (symbolsCheck depth n (now (word .entry)) room) ⌝ }
+{
+    match settings(m, t, n) {
+        Named::Refused(r) => Named::Refused(r),
+        Named::Code(c) => unless_refused(symbols(depth, n, word, room), c),
+    }
+}
+
+// Of one that takes the symbols of several words and a depth, with room for their messages and marks: 1, 2, 3, 4, 6, 7, 9.
+pub fn of_words(
+    m: usize,
+    t: usize,
+    n: usize,
+    depth: usize,
+    count: u16,
+    all: &[u8],
+    messages: usize,
+    marks: usize,
+) -> Named
+    ensures { λ r. ⌜ namedOf r ≡ namedBy (code m t n) (wordsCheck (code m t n) depth count (now (all .entry)) messages marks) ⌝ }
+{
+    match settings(m, t, n) {
+        Named::Refused(r) => Named::Refused(r),
+        Named::Code(c) => unless_refused(words(c, depth, count as usize, all, messages, marks), c),
+    }
 }

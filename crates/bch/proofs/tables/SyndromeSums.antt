@@ -1,6 +1,5 @@
--- The first t syndromes of a word as a running sum of packed powers, position by position, and where the tables of a code hold
--- these powers. Assumes nothing.
-use Prim.Native.Nat.{ℕ, _+_, _-_, _*_, _^_, _≤_, _<_}
+-- The first t syndromes of a word as a running sum of packed powers, position by position. Assumes nothing.
+use Prim.Native.Nat.{ℕ, _+_, _*_, _≤_, _<_}
 use native.Mathlib.Omega.{arith}
 use native.Mathlib.Nat.{one-mul, zero-mul}
 use native.Mathlib.Numerals.{add-one}
@@ -9,8 +8,8 @@ use mathlib.Core.Bool.{Bool, true, false, cond}
 use mathlib.Core.List.{List, []}
 use lib.Bits.{bitXor, xor-zero-r}
 use lib.Dec.{eqb}
-use lib.ListN.{length, getD, drop, length-drop}
-use lib.Seq.{drop-cons, drop-length, getD-drop}
+use lib.ListN.{length, getD, drop}
+use lib.Seq.{drop-cons, drop-length}
 use Rattle.galois.specs.Field.{alpha}
 use Rattle.galois.proofs.Xor.{bit-cases, xor-assoc}
 use Rattle.galois.specs.Packed.{packed}
@@ -23,8 +22,7 @@ use Rattle.bch.specs.Code.{powerSumFrom}
 use Rattle.bch.proofs.codes.Entries.{below-at, below-drop}
 use Rattle.bch.proofs.codes.SyndromeLaws.{powerSum-lt}
 use Rattle.bch.proofs.tables.Placing.{lowerPart}
-use Rattle.bch.proofs.tables.CodeTables.{CodeTables, lower-xor}
-use Rattle.bch.proofs.tables.TableLoops.{FieldFilled}
+use Rattle.bch.proofs.tables.CodeTables.{lower-xor}
 
 -- ---- a bit times a number
 
@@ -88,21 +86,3 @@ unfolding powerSumFrom
 sums-end m t i acc bs h old =
     let e : drop i bs ≡ [] = rw (h, drop-length) in
     sym (ap (λ (l : List ℕ). bitXor acc (sums m t i l)) e ∙ ap (bitXor acc) (lower-zero t) ∙ xor-zero-r acc) ∙ old
-
--- ---- the powers in a code's tables
-
--- by position, what it adds to the first t syndromes
-abbrev pub PowersAt : ℕ → ℕ → List ℕ → Type 0
-PowersAt m t ps = (i : ℕ) → i < 2 ^ m - 1 → getD ps i 0 ≡ lowerPart t (powersOf m i)
-
--- they stand from 2^m on, once the field's tables are filled, ..
-pub powers-after : (m t : ℕ) (ts : List ℕ) → FieldFilled m t ts → PowersAt m t (drop (2 ^ m) ts)
-powers-after m t ts f i h = rw getD-drop (f .powers i (omega arith))
-
--- .. and once all are
-pub powers-filled : (m t : ℕ) (ts : List ℕ) → CodeTables m t ts → PowersAt m t (drop (2 ^ m) ts)
-powers-filled m t ts f i h = rw getD-drop (f .powers i (omega arith))
-
--- there is one for each position (`long` of either)
-pub powers-long : (m : ℕ) (ts : List ℕ) → 3 * 2 ^ m + 16 ≤ length ts → 2 ^ m - 1 ≤ length (drop (2 ^ m) ts)
-powers-long m ts h = simp length-drop (omega arith)

@@ -1,22 +1,27 @@
--- The settings' refusal, or the answer of the code that they name. Assumes nothing.
-use mathlib.Core.Path.{refl, ap, sym, _∙_, subst}
-use mathlib.Core.Option.{Option}
+-- The check's refusal, or the answers of all words. Assumes nothing.
+use Prim.Native.Nat.{ℕ}
+use native.Mathlib.Omega.{arith}
+use mathlib.Core.Path.{_≡_, ap, sym, _∙_, subst}
+use mathlib.Core.Logic.{inr}
+use mathlib.Core.List.{List}
+use borrow.Author.Needs.{needs}
 use lib.ListN.{length}
 use Rattle.bch.specs.Code.{Code, code}
-use native.Mathlib.Omega.{arith}
-use Rattle.take_format.specs.Refusal.{Refusal, firstOf, settings, wordsCheck, wordsRefusal}
+use Rattle.chase.specs.Soft.{Answer}
+use Rattle.take_format.specs.Refusal.{wordsRefusal}
 use Rattle.take_format.specs.Batch.{answersTo, messagesOf, marksOf, totalsOf}
-use Rattle.take_format.specs.Calls.{answered, unlessRefused, wordsAnswer, messagesBuffer, marksBuffer}
-use Rattle.take_format.proofs.checks.CallLaws.{settings-refused, later-refused, answered-some, buffer-some}
+use Rattle.take_format.specs.Calls.{wordsAnswer, messagesBuffer, marksBuffer}
+use Rattle.take_format.proofs.checks.RefusalLaws.{WordsChecked, words-accepted}
+use Rattle.take_format.proofs.checks.CallLaws.{answered-some, answered-none, buffer-some, buffer-none}
 use Rattle.refusal.specs.Named.{namedOf, codeOf, Made}
+use Rattle.refusal.specs.declared.Code as struct
 use Rattle.refusal.proofs.Laws.{named-code, named-refused, made}
 use Rattle.receiver.specs.Answer.{wordsOf}
 use Rattle.receiver.proofs.decode_words.Statement.{statement}
 use Rattle.receiver.proofs.decode_words.Tie as tie
-use borrow.Author.Needs.{needs}
 
-settings-requires : tie.Need-settings-requires
-settings-requires c κs = search needs
+of-words-requires : tie.Need-of-words-requires
+of-words-requires c κs = search needs
 
 enum-known-r : tie.Need-enum-known-r
 enum-known-r c = search needs
@@ -25,26 +30,35 @@ enum-known-c : tie.Need-enum-known-c
 enum-known-c c = search needs
 
 decode-requires : tie.Need-decode-requires
+unfolding wordsRefusal
 decode-requires c κs =
-    let b = c .before .before .before .before .before .settings .ensures in
     let a = c .before .before .before .before .before .before .before .before .before .args in
     let w = code (a .m) (a .t) (a .n) in
+    let p = a .depth in
+    let ss = a .symbols .now in
+    let ms = a .messages .now in
+    let ks = a .marks .now in
     let g = c .before .before .before .c .given in
-    let (ok, e) = named-code (g .0 .0) (firstOf (settings w)) w (sym (ap namedOf (g .1)) ∙ b) in
-    (subst Made (sym e) (made (a .m) (a .t) (a .n) ok), omega arith)
+    let (ok, e) = named-code (g .0 .0) (wordsRefusal w p (a .words) ss ms ks) w
+    (sym (ap namedOf (g .1)) ∙ c .before .before .before .before .before .of-words .ensures) in
+    let (is, h) = words-accepted w p (a .words) ss ms ks ok in
+    let as-many = subst (λ (W : ℕ). WordsChecked w p W ss ms ks) (sym (h .marks-room)) h in (
+      (subst Made (sym e) (made (a .m) (a .t) (a .n) is), omega (arith, h .marks-room)),
+      subst (λ (k : struct.Code). WordsChecked (codeOf k) p (length ks) ss ms ks) (sym e) as-many,
+    )
 
 returns : tie.Need-returns
 unfolding wordsRefusal wordsOf wordsAnswer messagesBuffer marksBuffer
 returns c =
     let a = c .before .before .before .before .before .before .before .args in
     let w = code (a .m) (a .t) (a .n) in
+    let ms = a .messages .now in
+    let ks = a .marks .now in
     let g = c .before .r .given in
-    let refused = named-refused (g .0 .0) (firstOf (settings w)) _ (sym (ap namedOf (g .1)) ∙ c .before .before .before .settings .ensures) in
-    let e = settings-refused w (wordsCheck w (a .depth) (a .words) (a .symbols .now) (length (a .messages .now)) (length (a .marks .now))) _ (sym refused) in
-    let r = answersTo w (a .depth) (a .words) (a .symbols .now) in (
-      answered-some _ _ (totalsOf r) e,
-      (buffer-some _ _ (a .messages .now) (messagesOf w r) e, buffer-some _ _ (a .marks .now) (marksOf r) e),
-    )
+    let refused = named-refused (g .0 .0) (wordsRefusal w (a .depth) (a .words) (a .symbols .now) ms ks) _
+    (sym (ap namedOf (g .1)) ∙ c .before .before .before .of-words .ensures) in
+    let r = answersTo w (a .depth) (a .words) (a .symbols .now) in
+    (answered-some _ _ (totalsOf r) refused, (buffer-some _ _ ms (messagesOf w r) refused, buffer-some _ _ ks (marksOf r) refused))
 
 same-length : tie.Need-same-length
 same-length c = search needs
@@ -53,30 +67,28 @@ same-length-2 : tie.Need-same-length-2
 same-length-2 c = search needs
 
 returns-2 : tie.Need-returns-2
-unfolding wordsRefusal wordsAnswer messagesBuffer marksBuffer
+unfolding wordsRefusal wordsOf wordsAnswer messagesBuffer marksBuffer
 returns-2 c =
-    let b = c .before .before .before .before .before .before .before .before .before .before .settings .ensures in
     let a = c .before .before .before .before .before .before .before .before .before .before .before .before .before .before .args in
     let w = code (a .m) (a .t) (a .n) in
-    let g = c .before .before .before .before .before .before .before .before .c .given in
-    let (ok, e) = named-code (g .0 .0) (firstOf (settings w)) w (sym (ap namedOf (g .1)) ∙ b) in
     let p = a .depth in
     let W = a .words in
     let ss = a .symbols .now in
     let ms = a .messages .now in
     let ks = a .marks .now in
-    let later = wordsCheck w p W ss (length ms) (length ks) in
-    let all = sym (later-refused w later later (sym ok) refl) in
-    let r = answersTo w p W ss in
-    let d = c .before .before .before .before .decode .ensures in
-    let same = ap codeOf e in (
-      d .0 ∙ ap (λ (k : Code). answered (wordsCheck k p W ss (length ms) (length ks)) (totalsOf (answersTo k p W ss))) same
-          ∙ ap (λ (o : Option Refusal). answered o (totalsOf r)) all,
+    let g = c .before .before .before .before .before .before .before .before .c .given in
+    let (ok, e) = named-code (g .0 .0) (wordsRefusal w p W ss ms ks) w
+    (sym (ap namedOf (g .1)) ∙ c .before .before .before .before .before .before .before .before .before .before .of-words .ensures) in
+    let many = words-accepted w p W ss ms ks ok .1 .marks-room in
+    let all = answersTo w p W ss in
+    let same : (f : Code → List Answer → List ℕ) → f (codeOf (g .0 .0)) (answersTo (codeOf (g .0 .0)) p (length ks) ss) ≡ f w all = λ f.
+    ap (λ (k : struct.Code). f (codeOf k) (answersTo (codeOf k) p (length ks) ss)) e ∙ ap (λ (n : ℕ). f w (answersTo w p n ss)) many in
+    let totals = ap (λ (k : struct.Code). totalsOf (answersTo (codeOf k) p (length ks) ss)) e ∙ ap (λ (n : ℕ). totalsOf (answersTo w p n ss)) many in
+    let d = c .before .before .before .before .decode .ensures in (
+      ap inr (d .0 ∙ totals) ∙ answered-none _ (totalsOf all) ok,
       (
-        d .1 .0 ∙ ap (λ (k : Code). unlessRefused (wordsCheck k p W ss (length ms) (length ks)) ms (messagesOf k (answersTo k p W ss))) same
-            ∙ ap (λ (o : Option Refusal). unlessRefused o ms (messagesOf w r)) all,
-        d .1 .1 ∙ ap (λ (k : Code). unlessRefused (wordsCheck k p W ss (length ms) (length ks)) ks (marksOf (answersTo k p W ss))) same
-            ∙ ap (λ (o : Option Refusal). unlessRefused o ks (marksOf r)) all,
+        d .1 .0 ∙ same messagesOf ∙ buffer-none _ ms (messagesOf w all) ok,
+        d .1 .1 ∙ same (λ k as'. marksOf as') ∙ buffer-none _ ks (marksOf all) ok,
       ),
     )
 
@@ -84,7 +96,7 @@ pub decode-words-spec : {M : Type 1} → statement M
 decode-words-spec =
     tie.close
     (tie.spec
-    settings-requires
+    of-words-requires
     enum-known-r
     enum-known-c
     decode-requires

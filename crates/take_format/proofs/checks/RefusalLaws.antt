@@ -236,6 +236,14 @@ words-checked c p W symbols messages marks e =
       are-symbols = symbols-none 0 symbols hb;
     }
 
+pub words-accepted : (c : Code) (p W : ℕ) (symbols messages marks : List ℕ) → wordsRefusal c p W symbols messages marks ≡ none
+    → IsCode c × WordsChecked c p W symbols messages marks
+unfolding wordsRefusal
+words-accepted c p W symbols messages marks e =
+    let check = wordsCheck c p W symbols (length messages) (length marks) in
+    let (s, call) = first-append (settings c) (check ∷ []) e in
+    (settings-code c s, words-checked c p W symbols messages marks (first-cons check [] call .0))
+
 -- ---- what holds of a refusal
 
 -- a claim about the refusal, where there is one

@@ -1,86 +1,85 @@
--- The check's answer is the call's, and where it refuses nothing the words' are. Assumes nothing.
-use Prim.Native.Nat.{ℕ}
+-- The tables that are filled here are those of the code, and the codeword has room for n bits. Assumes nothing.
+use Prim.Native.Nat.{ℕ, _≤_}
 use native.Mathlib.Omega.{arith}
-use mathlib.Core.Path.{ap, sym, subst, _∙_}
-use mathlib.Core.Logic.{inr}
-use mathlib.Core.List.{List}
-use Rattle.chase.specs.Soft.{Answer}
-use Rattle.take_format.specs.Batch.{answersTo, messagesOf, marksOf, totalsOf}
-use Rattle.take_format.proofs.checks.RefusalLaws.{WordsChecked, words-checked}
-use Rattle.take_format.proofs.checks.CallLaws.{answered-some, answered-none, buffer-some, buffer-none}
-use Rattle.refusal.specs.Checked.{checked}
+use mathlib.Core.Path.{_≡_, sym, _∙_}
+use lib.ListN.{length, take, replicate, length-take}
+use Rattle.galois.proofs.FieldTables.{zeros}
+use Rattle.bch.proofs.codes.Settings.{word-short}
 use Rattle.refusal.specs.Named.{codeOf}
-use Rattle.receiver.specs.Answer.{wordsOf}
 use Rattle.receiver.proofs.all_words.decode.Statement.{statement}
 use Rattle.receiver.proofs.all_words.decode.Tie as tie
 use borrow.Author.Needs.{needs}
 
-check-requires : tie.Need-check-requires
-check-requires c κs = c .before .before .before .pre
+-- the part of the codeword that is lent has n bytes
+part-long : (n : ℕ) → n ≤ 1023 → length {A = ℕ} (take n (replicate 1023 0)) ≡ n
+part-long n h = omega (arith, length-take {A = ℕ} n (replicate 1023 0))
 
-enum-known-r : tie.Need-enum-known-r
-enum-known-r c = search needs
+-- there is room for them
+short : (s : tie.Start) (n : ℕ) → n ≡ s .args .c .n → n ≤ 1023
+short s n e = omega (arith, e, word-short (codeOf (s .args .c)) (s .pre .0 .0 .lawful))
 
-enum-told : tie.Need-enum-told
-enum-told c = search needs
+slice-aggregate-fill-field : tie.Need-slice-aggregate-fill-field
+slice-aggregate-fill-field c = search needs
 
-decode-with-requires : tie.Need-decode-with-requires
-unfolding checked
-decode-with-requires c κs =
-    let s = c .before .before .before .before .before .before .before .before in
-    let a = s .args in
-    let b = codeOf (a .c) in
-    let ok = words-checked b (a .p) (a .words) (a .symbols .now) (a .messages .now) (a .marks .now)
-    (sym (c .before .before .before .before .check .ensures) ∙ ap checked (c .before .before .enum-told .given .1)) in (
-      (s .pre .0, omega (arith, ok .marks-room, s .pre .1)),
-      subst (λ (W : ℕ). WordsChecked b (a .p) W (a .symbols .now) (a .messages .now) (a .marks .now)) (sym (ok .marks-room)) ok,
-    )
+fill-field-requires : tie.Need-fill-field-requires
+fill-field-requires c κs = let made = c .before .before .before .before .pre .0 .0 in (made, omega (arith, made .size-most), zeros 3088)
 
-returns : tie.Need-returns
-unfolding checked wordsOf
-returns c =
-    let s = c .before .before .before .before .before .before .before in
-    let a = s .args in
-    let b = codeOf (a .c) in
-    let all = answersTo b (a .p) (a .words) (a .symbols .now) in
-    let refused = sym (c .before .before .before .check .ensures) ∙ ap checked (c .before .r .given .1) in (
-      answered-some _ _ (totalsOf all) refused,
-      (buffer-some _ _ (a .messages .now) (messagesOf b all) refused, buffer-some _ _ (a .marks .now) (marksOf all) refused),
+slice-aggregate-fill-roots : tie.Need-slice-aggregate-fill-roots
+slice-aggregate-fill-roots c = search needs
+
+fill-roots-requires : tie.Need-fill-roots-requires
+fill-roots-requires c κs = c .before .before .fill-field .ensures
+
+length-requires : tie.Need-length-requires
+length-requires c κs = search needs
+
+slice-aggregate-decode-all : tie.Need-slice-aggregate-decode-all
+slice-aggregate-decode-all c = search needs
+
+array-borrow-prefix-codeword : tie.Need-array-borrow-prefix-codeword
+array-borrow-prefix-codeword c =
+    short (c .before .before .before .before .before .before .before .before .before .before .before) (c .before .length .result) (c .before .length .ensures)
+
+slice-aggregate-decode-all-2 : tie.Need-slice-aggregate-decode-all-2
+slice-aggregate-decode-all-2 c =
+    sym (part-long (c .before .before .length .result)
+    (short (c .before .before .before .before .before .before .before .before .before .before .before .before) (c .before .before .length .result)
+    (c .before .before .length .ensures)))
+
+decode-all-requires : tie.Need-decode-all-requires
+decode-all-requires c κs =
+    let s = c .before .before .before .before .before .before .before .before .before .before .before .before .before .before in
+    let n = c .before .before .before .before .length in (
+      (
+        c .before .before .before .before .before .before .fill-roots .ensures,
+        part-long (n .result) (short s (n .result) (n .ensures)) ∙ n .ensures,
+        s .pre .0 .1,
+      ),
+      s .pre .1,
     )
 
 same-length : tie.Need-same-length
-same-length c = search needs
+same-length c = c .before .before .before .messages .given
 
 same-length-2 : tie.Need-same-length-2
-same-length-2 c = search needs
+same-length-2 c = c .before .marks .given
 
-returns-2 : tie.Need-returns-2
-unfolding checked wordsOf
-returns-2 c =
-    let s = c .before .before .before .before .before .before .before .before .before .before .before .before .before in
-    let a = s .args in
-    let b = codeOf (a .c) in
-    let all : ℕ → List Answer = λ W. answersTo b (a .p) W (a .symbols .now) in
-    let passed = sym (c .before .before .before .before .before .before .before .before .before .check .ensures)
-    ∙ ap checked (c .before .before .before .before .before .before .before .enum-told .given .1) in
-    let e = words-checked b (a .p) (a .words) (a .symbols .now) (a .messages .now) (a .marks .now) passed .marks-room in
-    let d = c .before .before .before .before .decode-with .ensures in (
-      ap inr (d .0 ∙ ap (λ (W : ℕ). totalsOf (all W)) e) ∙ answered-none _ (totalsOf (all (a .words))) passed,
-      (
-        d .1 .0 ∙ ap (λ (W : ℕ). messagesOf b (all W)) e ∙ buffer-none _ (a .messages .now) (messagesOf b (all (a .words))) passed,
-        d .1 .1 ∙ ap (λ (W : ℕ). marksOf (all W)) e ∙ buffer-none _ (a .marks .now) (marksOf (all (a .words))) passed,
-      ),
-    )
+returns : tie.Need-returns
+returns c = c .before .before .before .before .before .decode-all .ensures
 
 pub decode-spec : {M : Type 1} → statement M
 decode-spec =
     tie.close
     (tie.spec
-    check-requires
-    enum-known-r
-    enum-told
-    decode-with-requires
-    returns
+    slice-aggregate-fill-field
+    fill-field-requires
+    slice-aggregate-fill-roots
+    fill-roots-requires
+    length-requires
+    slice-aggregate-decode-all
+    array-borrow-prefix-codeword
+    slice-aggregate-decode-all-2
+    decode-all-requires
     same-length
     same-length-2
-    returns-2)
+    returns)

@@ -1,9 +1,9 @@
 -- What is added and what is left to add are the syndromes. Assumes nothing.
-use Prim.Native.Nat.{_-_, _≤_}
+use Prim.Native.Nat.{ℕ, _+_, _-_, _≤_}
 use native.Mathlib.Omega.{arith}
-use mathlib.Core.Path.{_≡_, refl}
+use mathlib.Core.Path.{_≡_, refl, ap, _∙_}
 use lib.Bits.{bitXor}
-use lib.ListN.{length, drop}
+use lib.ListN.{length, getD, drop}
 use Rattle.bch.specs.Code.{syndrome}
 use Rattle.bch.proofs.codes.Settings.{primitive-of}
 use Rattle.bch.proofs.codes.Entries.{below-at}
@@ -14,10 +14,10 @@ use Rattle.receiver.proofs.hard_stage.syndromes.Statement.{statement}
 use Rattle.receiver.proofs.hard_stage.syndromes.Tie as tie
 
 abbrev Inv-loop : tie.InvT-loop
-Inv-loop powers bits m t acc₀ i₀ acc i = (i ≤ length bits) × (bitXor acc (sums m t i (drop i bits)) ≡ sums m t 0 bits)
+Inv-loop tables bits m t from acc₀ i₀ acc i = (i ≤ length bits) × (bitXor acc (sums m t i (drop i bits)) ≡ sums m t 0 bits)
 
 abbrev μ-loop : tie.MeasureT-loop
-μ-loop powers bits m t acc₀ i₀ acc i = length bits - i
+μ-loop tables bits m t from acc₀ i₀ acc i = length bits - i
 
 loop-holds : tie.Need-loop-holds Inv-loop μ-loop
 loop-holds c = search needs
@@ -25,16 +25,23 @@ loop-holds c = search needs
 shared-slice-read-where-set : tie.Need-shared-slice-read-where-set Inv-loop μ-loop
 shared-slice-read-where-set c = search needs
 
+add-where-set : tie.Need-add-where-set Inv-loop μ-loop
+add-where-set c =
+    let m = c .before .before .before .before .before .pre .0 .made in
+    omega (arith, m .is-powers, m .size-most, m .lawful .n-most)
+
 mul-where-set : tie.Need-mul-where-set Inv-loop μ-loop
 mul-where-set c = search needs
 
 shared-slice-read-where-set-2 : tie.Need-shared-slice-read-where-set-2 Inv-loop μ-loop
-shared-slice-read-where-set-2 c = let s = c .before .before .before .before .before .before in omega (arith, s .pre .0 .0 .lawful .n-most)
+shared-slice-read-where-set-2 c = 
+    let f = c .before .before .before .before .before .before .pre .0 in
+    omega (arith, f .made .is-powers, f .made .lawful .n-most, f .field .long)
 
 where-set-requires : tie.Need-where-set-requires Inv-loop μ-loop
 where-set-requires c κs =
     let s = c .before .before .before .before .before .before in
-    below-at 1 (s .args .bits .now) (c .before .before .before .loop .i) (s .pre .1 .1)
+    below-at 1 (s .args .bits .now) (c .before .before .before .loop .i) (s .pre .2)
 
 add-i : tie.Need-add-i Inv-loop μ-loop
 add-i c = search needs
@@ -46,12 +53,13 @@ loop-again : tie.Need-loop-again Inv-loop μ-loop
 loop-again c =
     let s = c .before .before .before .before .before .before .before in
     let a = s .args in
-    let k = s .pre .0 .0 .lawful in
+    let f = s .pre .0 in
+    let k = f .made .lawful in
     let l = c .before .before .before .before .loop in
-    let power = s .pre .0 .1 (l .i) (omega (arith, k .n-most)) in (
+    let power = ap (λ (x : ℕ). getD (a .tables .now) (x + l .i) 0) (f .made .is-powers) ∙ f .field .powers (l .i) (omega (arith, k .n-most)) in (
       omega arith,
       rw (c .where-set .ensures)
-          (sums-acc (a .c .m) (primitive-of (codeOf (a .c)) k) (k .m-most) (a .c .t) (k .t-least) (k .t-most) (a .bits .now) (s .pre .1 .1) (l .i) (l .acc) _ _
+          (sums-acc (a .c .m) (primitive-of (codeOf (a .c)) k) (k .m-most) (a .c .t) (k .t-least) (k .t-most) (a .bits .now) (s .pre .2) (l .i) (l .acc) _ _
           (omega arith) refl power (l .inv .1)),
     )
 
@@ -69,6 +77,7 @@ syndromes-spec =
     μ-loop
     loop-holds
     shared-slice-read-where-set
+    add-where-set
     mul-where-set
     shared-slice-read-where-set-2
     where-set-requires

@@ -8,29 +8,14 @@ use Rattle.chase.proofs.search.Ready.{sums-first, weights-first}
 use Rattle.refusal.specs.Named.{codeOf}
 use Rattle.receiver.specs.Search.{TestWords}
 use Rattle.receiver.proofs.Outcomes.{no-bool, tried-none, tried-all}
-use Rattle.receiver.proofs.Powers.{powers-part}
 use Rattle.receiver.proofs.search.search.Statement.{statement}
 use Rattle.receiver.proofs.search.search.Tie as tie
 use borrow.Author.Needs.{needs}
 
-mul-syndromes : tie.Need-mul-syndromes
-mul-syndromes c = search needs
-
-sub-syndromes : tie.Need-sub-syndromes
-sub-syndromes c = search needs
-
-part-syndromes-start : tie.Need-part-syndromes-start
-part-syndromes-start c = search needs
-
-part-syndromes-end : tie.Need-part-syndromes-end
-part-syndromes-end c = search needs
-
 syndromes-requires : tie.Need-syndromes-requires
 syndromes-requires c κs =
-    let s = c .before .before .before in
-    let r = s .pre in
-    let p = powers-part (s .args .c) (s .args .tables .now) (r .filled .fielded) in
-    ((r .filled .fielded .made, p .0, p .1), (r .long, r .deep .ready .symbols))
+    let r = c .before .before .pre in
+    (r .filled .fielded, r .long, r .deep .ready .symbols)
 
 slice-aggregate-try-on : tie.Need-slice-aggregate-try-on
 slice-aggregate-try-on c = search needs
@@ -43,7 +28,7 @@ untried-requires c κs = search needs
 
 try-on-requires : tie.Need-try-on-requires
 try-on-requires c κs =
-    let s = c .before .before .before .before .before .before .before in
+    let s = c .before .before .before .before .before .before in
     let a = s .args in
     let r = s .pre in
     let k = codeOf (a .c) in
@@ -60,26 +45,26 @@ try-on-requires c κs =
 
 returns : tie.Need-returns
 returns c =
-    let a = c .before .before .before .before .before .before .before .before .before .args in
+    let a = c .before .before .before .before .before .before .before .before .args in
     let e = c .before .try-on .ensures in
     (tried-all (codeOf (a .c)) (a .p) (a .s .now) _ (e .0) (λ z. no-bool (sym (c .if1 .taken) ∙ z)), e .0 .sound)
 
 returns-2 : tie.Need-returns-2
 returns-2 c =
-    let a = c .before .before .before .before .before .before .before .before .before .before .args in
+    let a = c .before .before .before .before .before .before .before .before .before .args in
     let e = c .before .before .try-on .ensures in
     let one : 1 ≡ 2 ^ a .p = sym (ap (λ (n : ℕ). 2 ^ n) (c .if2 .taken)) in
     (tried-all (codeOf (a .c)) (a .p) (a .s .now) _ (e .0) (λ z. e .1 z ∙ one), e .0 .sound)
 
 search-on-requires : tie.Need-search-on-requires
 search-on-requires c κs =
-    let s = c .before .before .before .before .before .before .before .before .before .before in
+    let s = c .before .before .before .before .before .before .before .before .before in
     let e = c .before .before .try-on .ensures in
     ((s .pre, c .before .before .before .before .before .before .syndromes .ensures), (e .0, c .before .if1 .left, e .1 (c .before .if1 .left)))
 
 returns-3 : tie.Need-returns-3
 returns-3 c =
-    let a = c .before .before .before .before .before .before .before .before .before .before .before .args in
+    let a = c .before .before .before .before .before .before .before .before .before .before .args in
     let e = c .search-on .ensures in
     (tried-all (codeOf (a .c)) (a .p) (a .s .now) _ (e .0) (e .1), e .0 .sound)
 
@@ -87,10 +72,6 @@ pub search-spec : {M : Type 1} → statement M
 search-spec =
     tie.close
     (tie.spec
-    mul-syndromes
-    sub-syndromes
-    part-syndromes-start
-    part-syndromes-end
     syndromes-requires
     slice-aggregate-try-on
     slice-aggregate-try-on-2

@@ -9,9 +9,9 @@ use Rattle.bch.proofs.codes.Settings.{word-short}
 use Rattle.take_format.specs.Refusal.{symbolBytes, wordsCheck}
 use Rattle.take_format.proofs.checks.RefusalLaws.{first-last}
 use Rattle.take_format.proofs.takes.Batches.{words-small}
 use Rattle.refusal.specs.Named.{codeOf}
-use Rattle.receiver.proofs.all_words.check.Statement.{statement}
-use Rattle.receiver.proofs.all_words.check.Tie as tie
+use Rattle.refusal.proofs.words.Statement.{statement}
+use Rattle.refusal.proofs.words.Tie as tie
 use borrow.Author.Needs.{needs}
 
 -- the products fit
@@ -52,7 +52,7 @@ returns-2 c =
     c .refuse2 .ensures ∙ sym
     (simp (
       le-leb (a .p) 6 (c .before .before .before .if1 .left),
-      ne-eqb (length (a .symbols .now)) (a .words * a .c .n) (λ q. c .before .if2 .taken (q ∙ sym e)),
+      ne-eqb (length (a .all .now)) (a .words * a .c .n) (λ q. c .before .if2 .taken (q ∙ sym e)),
     ))
 
 message-length-requires : tie.Need-message-length-requires
@@ -76,7 +76,7 @@ returns-3 c =
     c .refuse3 .ensures ∙ sym
     (simp (
       le-leb (a .p) 6 (c .before .before .before .before .before .if1 .left),
-      eq-eqb (length (a .symbols .now)) (a .words * a .c .n) (c .before .before .before .if2 .left ∙ e),
+      eq-eqb (length (a .all .now)) (a .words * a .c .n) (c .before .before .before .if2 .left ∙ e),
       ne-eqb (a .messages) (a .words * messageLength (codeOf (a .c))) (λ q. c .before .if3 .taken (q ∙ sym f)),
     ))
 
@@ -93,7 +93,7 @@ returns-4 c =
     c .refuse4 .ensures ∙ sym
     (simp (
       le-leb (a .p) 6 (c .before .before .before .before .before .before .if1 .left),
-      eq-eqb (length (a .symbols .now)) (a .words * a .c .n) (c .before .before .before .before .if2 .left ∙ e),
+      eq-eqb (length (a .all .now)) (a .words * a .c .n) (c .before .before .before .before .if2 .left ∙ e),
       eq-eqb (a .messages) (a .words * messageLength (codeOf (a .c))) (c .before .before .if3 .left ∙ f),
       ne-eqb (a .marks) (a .words) (c .before .if4 .taken),
     ))
@@ -111,13 +111,13 @@ returns-5 c =
     c .at-most .ensures ∙ sym
     (simp (
       le-leb (a .p) 6 (c .before .before .before .before .before .before .if1 .left),
-      eq-eqb (length (a .symbols .now)) (a .words * a .c .n) (c .before .before .before .before .if2 .left ∙ e),
+      eq-eqb (length (a .all .now)) (a .words * a .c .n) (c .before .before .before .before .if2 .left ∙ e),
       eq-eqb (a .messages) (a .words * messageLength (codeOf (a .c))) (c .before .before .if3 .left ∙ f),
       eq-eqb (a .marks) (a .words) (c .before .if4 .left),
-    ) (first-last (symbolBytes 0 (a .symbols .now))))
+    ) (first-last (symbolBytes 0 (a .all .now))))
 
-pub check-spec : {M : Type 1} → statement M
-check-spec =
+pub words-spec : {M : Type 1} → statement M
+words-spec =
     tie.close
     (tie.spec
     refuse-requires
