@@ -3,7 +3,6 @@
 ghost use Prim.Native.Nat.{_+_, _/_, _%_, _<_, _≤_, _^_};
 ghost use mathlib.Core.Path.{_≡_};
 ghost use mathlib.Core.List.{_++_};
-ghost use mathlib.Core.Option.{none};
 ghost use lib.ListN.{length, take, drop};
 ghost use Rattle.bch.specs.Words.{Bits};
 ghost use Rattle.bch.specs.Code.{messageLength};
@@ -12,13 +11,8 @@ ghost use Rattle.bch.specs.Generator.{generator};
 ghost use Rattle.bch.proofs.encoding.Numbers.{word};
 ghost use Rattle.bch.proofs.encoding.Division.{remainder};
 ghost use Rattle.bch.proofs.encoding.Division.{step as Division·step};
-ghost use Rattle.take_format.specs.Refusal.{firstOf, settings, encodeRefusal};
-ghost use Rattle.take_format.specs.Calls.{encodeBuffer};
 ghost use Rattle.take_format.proofs.checks.RefusalLaws.{BitsAccepted};
 ghost use Rattle.refusal.specs.Named.{codeOf};
-ghost use Rattle.encoder.specs.Outcome.{encodedOf};
-use crate::Encoded;
-use refusal::Check;
 use refusal::Code;
 
 // The generators: a row for each m from 5 to 8, in it t from 1 to 3.
@@ -111,7 +105,7 @@ fn write_message(r: usize, message: &[u8], codeword: &mut [u8])
 }
 
 // Writes the codeword that carries the message.
-fn write(c: Code, message: &[u8], codeword: &mut [u8])
+pub fn write(c: Code, message: &[u8], codeword: &mut [u8])
     requires { ⌜ BitsAccepted (codeOf c) (messageLength (codeOf c)) (now message) (now codeword) ⌝ }
     ensures { λ _. ⌜ now (codeword .exit) ≡ encoded (codeOf c) (now (message .entry)) ⌝ }
 {
@@ -119,20 +113,4 @@ fn write(c: Code, message: &[u8], codeword: &mut [u8])
     let register = parity(r, generator_of(c.m, c.t), message);
     write_parity(r, register, codeword);
     write_message(r, message, codeword);
-}
-
-// The message's bits and the room for the codeword are checked, and then it is written: 6, 7, 8.
-pub fn encode(c: Code, message: &[u8], codeword: &mut [u8]) -> Encoded
-    requires { ⌜ (firstOf (settings (codeOf c)) ≡ none) × (c .k ≡ messageLength (codeOf c)) ⌝ }
-    ensures { λ r. ⌜ encodedOf r ≡ encodeRefusal (codeOf c) (now (message .entry)) (now (codeword .entry)) ⌝ }
-    ensures { λ _. ⌜ now (codeword .exit) ≡ encodeBuffer (codeOf c) (now (message .entry)) (now (codeword .entry)) ⌝ }
-{
-    match refusal::bits(c.message_length(), c.length(), message, codeword.len()) {
-        Check::Refused(r) => {
-            return Encoded::Refused(r);
-        }
-        Check::Passed => {}
-    }
-    write(c, message, codeword);
-    Encoded::Written
 }

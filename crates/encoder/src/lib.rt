@@ -26,8 +26,11 @@ pub fn encode(m: usize, t: usize, n: usize, message: &[u8], codeword: &mut [u8])
     ensures { λ r. ⌜ encodedOf r ≡ encodeRefusal (code m t n) (now (message .entry)) (now (codeword .entry)) ⌝ }
     ensures { λ _. ⌜ now (codeword .exit) ≡ encodeBuffer (code m t n) (now (message .entry)) (now (codeword .entry)) ⌝ }
 {
-    match refusal::settings(m, t, n) {
+    match refusal::of_message(m, t, n, message, codeword.len()) {
         Named::Refused(r) => Encoded::Refused(r),
-        Named::Code(c) => division::encode(c, message, codeword),
+        Named::Code(c) => {
+            division::write(c, message, codeword);
+            Encoded::Written
+        }
     }
 }
