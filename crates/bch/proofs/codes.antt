@@ -5,6 +5,7 @@ pub mod Copies
 pub mod Trials
 pub mod Counting
 pub mod Flipped
+pub mod Behind
 pub mod SyndromeLaws
 pub mod Positions
 pub mod Distance

@@ -5,11 +5,12 @@ use mathlib.Core.Path.{_≡_, refl, ap, sym, _∙_}
 use mathlib.Core.Logic.{_⊎_, _≢_, inl, inr}
 use mathlib.Core.Bool.{Bool, true, false, cond}
 use mathlib.Core.List.{List, []}
-use Rattle.chase.specs.Soft.{Answer, Mark, lost, fair, sure, answer, lostAnswer, softWritten}
+use lib.ListN.{drop}
+use Rattle.chase.specs.Soft.{Answer, Mark, lost, fair, sure, answer, lostAnswer}
 use Rattle.take_format.specs.Batch.{markByte, Totals, countedOf, capped, countedAnswer}
 use Rattle.take_format.specs.Refusal.{Refusal}
 use Rattle.receiver.specs.Answer.{softOf}
-use Rattle.receiver.specs.Search.{candidateOf, outcomeOf, markIn}
+use Rattle.receiver.specs.Search.{candidateOf, outcomeOf, writtenFrom, markIn}
 use Rattle.receiver.specs.declared.search.Outcome.{Outcome}
 use Rattle.receiver.specs.declared.Soft.{Soft}
 use Rattle.receiver.specs.declared.Soft.the-variants.{Refused, Lost, Fair, Sure}
@@ -49,12 +50,12 @@ module _ (p : ℕ) (ss : List ℕ) (o : Outcome) where
       go true q = omega arith
       go false q = omega arith
 
--- what is written for an answer that is not lost is its word
-pub word-written : (a : Answer) (old : List ℕ) → markByte (a .mark) ≢ 0 → softWritten a old ≡ a .word
-unfolding softWritten
-word-written a old n = go (a .mark) refl n
+-- what is written for an answer that is not lost is its word from there on
+pub word-written : (from : ℕ) (a : Answer) (old : List ℕ) → markByte (a .mark) ≢ 0 → writtenFrom from a old ≡ drop from (a .word)
+unfolding writtenFrom
+word-written from a old n = go (a .mark) refl n
   where
-    go : (m : Mark) → a .mark ≡ m → markByte m ≢ 0 → softWritten a old ≡ a .word
+    go : (m : Mark) → a .mark ≡ m → markByte m ≢ 0 → writtenFrom from a old ≡ drop from (a .word)
     go lost q n = absurd (n refl)
     go fair q n = rw q refl
     go sure q n = rw q refl

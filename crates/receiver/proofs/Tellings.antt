@@ -5,9 +5,10 @@ use mathlib.Core.Logic.{inr}
 use mathlib.Core.Bool.{Bool, true, false, cond}
 use mathlib.Core.List.{List}
 use lib.IntN.{subℕ}
-use Rattle.chase.specs.Soft.{Answer, lostAnswer, answer, sure, fair, softWritten}
+use lib.ListN.{drop}
+use Rattle.chase.specs.Soft.{Answer, Mark, lostAnswer, answer, lost, sure, fair, softWritten}
 use Rattle.receiver.specs.Answer.{softOf}
-use Rattle.receiver.specs.Search.{candidateOf, outcomeOf, told}
+use Rattle.receiver.specs.Search.{candidateOf, outcomeOf, writtenFrom, told}
 use Rattle.receiver.specs.declared.search.Outcome.{Outcome}
 use Rattle.receiver.specs.declared.Soft.{Soft}
 use Rattle.receiver.specs.declared.Soft.the-variants.{Lost, Fair, Sure}
@@ -29,21 +30,32 @@ told-answer p ss old o = go (o .pick .flips .found) (o .sure)
 
 -- ---- what is written
 
--- nothing where nothing is found, ..
-pub written-none : (p : ℕ) (ss : List ℕ) (o : Outcome) (old : List ℕ) → o .pick .flips .found ≡ false → old ≡ softWritten (outcomeOf p ss o) old
-unfolding outcomeOf softWritten
-written-none p ss o old h = rw h
+module _ (p : ℕ) (ss : List ℕ) (from : ℕ) (o : Outcome) (old : List ℕ) where
+  -- nothing where nothing is found, ..
+  pub written-none : o .pick .flips .found ≡ false → old ≡ writtenFrom from (outcomeOf p ss o) old
+  unfolding outcomeOf writtenFrom
+  written-none h = rw h
 
--- .. and else the candidate's word
-pub written-some : (p : ℕ) (ss : List ℕ) (o : Outcome) (old : List ℕ) → o .pick .flips .found ≡ true
-    → candidateOf p ss (o .pick) .word ≡ softWritten (outcomeOf p ss o) old
-unfolding outcomeOf softWritten
-written-some p ss o old h = rw h (go (o .sure))
+  -- .. and else the candidate's word from there on
+  pub written-some : o .pick .flips .found ≡ true → drop from (candidateOf p ss (o .pick) .word) ≡ writtenFrom from (outcomeOf p ss o) old
+  unfolding outcomeOf writtenFrom
+  written-some h = rw h (go (o .sure))
+    where
+      go : (b : Bool) → drop from (candidateOf p ss (o .pick) .word)
+          ≡ writtenFrom from (cond b (answer sure (o .tries) (candidateOf p ss (o .pick))) (answer fair (o .tries) (candidateOf p ss (o .pick)))) old
+      go true = refl
+      go false = refl
+
+-- from position 0 on, the whole codeword
+pub written-whole : (a : Answer) (old : List ℕ) → writtenFrom 0 a old ≡ softWritten a old
+unfolding writtenFrom softWritten
+written-whole a old = go (a .mark)
   where
-    go : (b : Bool) → candidateOf p ss (o .pick) .word
-        ≡ softWritten (cond b (answer sure (o .tries) (candidateOf p ss (o .pick))) (answer fair (o .tries) (candidateOf p ss (o .pick)))) old
-    go true = refl
-    go false = refl
+    go : (m : Mark) → _≡_ {A = List ℕ} (elim m [ lost ↦ old | fair ↦ drop 0 (a .word) | sure ↦ drop 0 (a .word) ])
+        (elim m [ lost ↦ old | fair ↦ a .word | sure ↦ a .word ])
+    go lost = refl
+    go fair = refl
+    go sure = refl
 
 -- ---- the caller's answer, where the buffer w is written
 

@@ -7,7 +7,7 @@ use mathlib.Core.List.{List}
 use mathlib.Core.Option.{Option, none, some}
 use lib.Dec.{ltb, leb}
 use lib.IntN.{subℕ}
-use lib.ListN.{length}
+use lib.ListN.{length, drop}
 use Rattle.bch.specs.Words.{flippedAt}
 use Rattle.bch.specs.Code.{Code, designDistance}
 use Rattle.bch.proofs.logarithms.LogAnswers.{syndromesOf}
@@ -92,6 +92,10 @@ pub record TestWords (c : Code) (p : ℕ) (ss sums weights : List ℕ) : Type 0 
   pub as-many : length weights ≡ length sums
   pub are-sums : Holds (λ (j : ℕ). syndromesOf c (test p ss j)) (length sums) sums
   pub are-weights : Holds (λ (j : ℕ). packedWeight (reliabilities ss) (test p ss j) (hardBits ss)) (length sums) weights
+
+-- what is written for an answer, of its codeword from a position on, over what was there
+unfoldable pub writtenFrom : ℕ → Answer → List ℕ → List ℕ
+writtenFrom from a old = elim (a .mark) [ lost ↦ old | fair ↦ drop from (a .word) | sure ↦ drop from (a .word) ]
 
 -- the answer's case for an outcome
 unfoldable pub told : Outcome → Soft

@@ -12,7 +12,6 @@ ghost use Rattle.receiver.specs.Search.{markIn};
 ghost use Rattle.receiver.specs.Tables.{Filled};
 use crate::Totals;
 use crate::add;
-use crate::hard_stage;
 use crate::search::Outcome;
 use crate::soft_stage;
 use crate::tables;
@@ -41,28 +40,18 @@ fn mark_of(o: Outcome) -> u8
 }
 
 // One word: its message, and 0 in its place where it is lost.
-fn decode_word(
-    c: Code,
-    tables: &[u32],
-    p: usize,
-    s: &[u8],
-    codeword: &mut [u8],
-    message: &mut [u8],
-) -> Outcome
-    requires { ⌜ Filled c (now tables) × (p ≤ 6) × (length (now s) ≡ c .n) × (length (now codeword) ≡ c .n) × Symbols (now s) ⌝ }
-    requires { ⌜ length (now message) ≡ c .k ⌝ }
+fn decode_word(c: Code, tables: &[u32], p: usize, s: &[u8], message: &mut [u8]) -> Outcome
+    requires { ⌜ Filled c (now tables) × (p ≤ 6) × (length (now s) ≡ c .n) × Symbols (now s) × (length (now message) ≡ c .k) ⌝ }
     ensures { λ r. ⌜ (markIn r ≡ markByte (softStage (codeOf c) p (now (s .entry)) .mark)) × (r .tries ≡ softStage (codeOf c) p (now (s .entry)) .tries) ⌝ }
     ensures { λ _. ⌜ now (message .exit) ≡ Batch·message (codeOf c) (softStage (codeOf c) p (now (s .entry))) ⌝ }
 {
-    let o = soft_stage::decode_word(c, tables, p, s, codeword);
+    let from = c.length() - c.message_length();
+    let o = soft_stage::decode_word(c, tables, p, s, from, message);
     let found = o.pick.flips.found;
-    if !found {
-        clear(message);
+    if found {
         return o;
     }
-    let n = c.length();
-    let from = n - c.message_length();
-    hard_stage::copy(&codeword[from..n], message);
+    clear(message);
     o
 }
 
@@ -72,11 +61,10 @@ fn decode_all(
     tables: &[u32],
     p: usize,
     symbols: &[u8],
-    codeword: &mut [u8],
     messages: &mut [u8],
     marks: &mut [u8],
 ) -> Totals
-    requires { ⌜ Filled c (now tables) × (length (now codeword) ≡ c .n) × (length (now marks) ≤ 65535) ⌝ }
+    requires { ⌜ Filled c (now tables) × (length (now marks) ≤ 65535) ⌝ }
     requires { ⌜ WordsChecked (codeOf c) p (length (now marks)) (now symbols) (now messages) (now marks) ⌝ }
     ensures { λ r. ⌜ totalsTold r ≡ totalsOf (answersTo (codeOf c) p (length (now (marks .entry))) (now (symbols .entry))) ⌝ }
     ensures { λ _. ⌜ now (messages .exit) ≡ messagesOf (codeOf c) (answersTo (codeOf c) p (length (now (marks .entry))) (now (symbols .entry))) ⌝ }
@@ -100,7 +88,6 @@ fn decode_all(
             tables,
             p,
             &symbols[at..at + n],
-            codeword,
             &mut messages[to..to + k],
         );
         let mark = mark_of(o);
@@ -113,8 +100,7 @@ fn decode_all(
     totals
 }
 
-// All words, with tables of its own, which have room for m = 10, and a codeword that each word is written to before its message is taken
-// from it.
+// All words, with tables of its own, which have room for m = 10.
 pub fn decode(c: Code, p: usize, symbols: &[u8], messages: &mut [u8], marks: &mut [u8]) -> Totals
     requires { ⌜ Made c × (length (now marks) ≤ 65535) ⌝ }
     requires { ⌜ WordsChecked (codeOf c) p (length (now marks)) (now symbols) (now messages) (now marks) ⌝ }
@@ -125,7 +111,5 @@ pub fn decode(c: Code, p: usize, symbols: &[u8], messages: &mut [u8], marks: &mu
     let mut tables = [0u32; 3088];
     tables::fill_field(c, &mut tables);
     tables::fill_roots(c, &mut tables);
-    let n = c.length();
-    let mut codeword = [0u8; 1023];
-    decode_all(c, &tables, p, symbols, &mut codeword[..n], messages, marks)
+    decode_all(c, &tables, p, symbols, messages, marks)
 }

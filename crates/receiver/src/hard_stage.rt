@@ -5,8 +5,9 @@ ghost use mathlib.Core.Bool.{true};
 ghost use Prim.Native.Nat.{_+_, _*_, _^_, _<_, _≤_};
 ghost use lib.ListN.{length};
 ghost use Rattle.galois.proofs.FieldTables.{Zeros};
-ghost use Rattle.bch.specs.Words.{Bits, flippedAt};
+ghost use Rattle.bch.specs.Words.{Bits};
 ghost use Rattle.bch.specs.Hard.{hardFlips, hardWritten};
+ghost use Rattle.bch.proofs.codes.Behind.{flipFrom, flippedFrom};
 ghost use Rattle.bch.proofs.logarithms.LogAnswers.{syndromesOf};
 ghost use Rattle.bch.proofs.tables.Placing.{Placed};
 ghost use Rattle.bch.proofs.logarithms.Repairs.{Repairs};
@@ -63,7 +64,7 @@ fn located(c: Code, tables: &mut [u32], s: u32) -> Flips
 }
 
 // Copies the bits.
-pub fn copy(bits: &[u8], out: &mut [u8])
+fn copy(bits: &[u8], out: &mut [u8])
     requires { ⌜ length (now out) ≡ length (now bits) ⌝ }
     ensures { λ _. ⌜ now (out .exit) ≡ now (bits .entry) ⌝ }
 {
@@ -74,17 +75,28 @@ pub fn copy(bits: &[u8], out: &mut [u8])
     }
 }
 
-// Flips the bits at the positions.
-pub fn flip_at(out: &mut [u8], f: Flips)
-    requires { ⌜ Bits (now out) × Placed (length (now out)) (f .count) (f .at) ⌝ }
-    ensures { λ _. ⌜ now (out .exit) ≡ flippedAt (flipsOf f) (now (out .entry)) ⌝ }
+// Flips the bit at position x, in the bits of a word from `from` on.
+pub fn flip(out: &mut [u8], from: usize, x: usize)
+    requires { ⌜ Bits (now out) × (x < from + length (now out)) ⌝ }
+    ensures { λ _. ⌜ now (out .exit) ≡ flipFrom from x (now (out .entry)) ⌝ }
+{
+    if x < from {
+        return;
+    }
+    let at = x - from;
+    out[at] = 1 - out[at];
+}
+
+// Flips those at the positions.
+pub fn flip_at(out: &mut [u8], from: usize, f: Flips)
+    requires { ⌜ Bits (now out) × Placed (from + length (now out)) (f .count) (f .at) ⌝ }
+    ensures { λ _. ⌜ now (out .exit) ≡ flippedFrom from (flipsOf f) (now (out .entry)) ⌝ }
 {
     let count = f.count;
     let places = f.at;
     let mut i = 0;
     while i < count {
-        let p = locate::entry_of(places, i);
-        out[p] = 1 - out[p];
+        flip(out, from, locate::entry_of(places, i));
         i += 1;
     }
 }
@@ -101,7 +113,7 @@ fn write(c: Code, f: Flips, bits: &[u8], codeword: &mut [u8]) -> Hard
         return Hard::Lost;
     }
     copy(bits, codeword);
-    flip_at(codeword, f);
+    flip_at(codeword, 0, f);
     Hard::Found(f.count)
 }
 

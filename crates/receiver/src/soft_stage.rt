@@ -3,17 +3,19 @@ ghost use mathlib.Core.Path.{_≡_};
 ghost use mathlib.Core.Logic.{inr};
 ghost use Prim.Native.Nat.{_-_, _*_, _+_, _^_, _<_, _≤_};
 ghost use lib.IntN.{subℕ};
-ghost use lib.ListN.{length};
+ghost use lib.ListN.{length, drop};
 ghost use Rattle.galois.proofs.FieldTables.{Zeros};
 ghost use Rattle.bch.specs.Words.{Bits, Distinct, flippedAt};
+ghost use Rattle.bch.proofs.codes.Behind.{flippedFrom};
 ghost use Rattle.bch.proofs.tables.Placing.{Placed};
-ghost use Rattle.chase.specs.Soft.{hardBits, testWord, softStage, softWritten};
+ghost use Rattle.chase.specs.Soft.{hardBits, softStage, softWritten};
 ghost use Rattle.chase.specs.Word.{test, Symbols};
+ghost use Rattle.chase.proofs.test_words.TestWords.{chosen};
 ghost use Rattle.chase.proofs.search.Ready.{Ready, placesOf};
 ghost use Rattle.refusal.specs.Named.{codeOf, Made};
 ghost use Rattle.receiver.specs.Answer.{softOf};
 ghost use Rattle.receiver.specs.Located.{flipsOf};
-ghost use Rattle.receiver.specs.Search.{outcomeOf, Sound, told};
+ghost use Rattle.receiver.specs.Search.{outcomeOf, writtenFrom, Sound, told};
 ghost use Rattle.receiver.specs.Tables.{Filled};
 use crate::Soft;
 use crate::hard_stage;
@@ -25,45 +27,44 @@ use crate::search::Outcome;
 use crate::tables;
 use refusal::Code;
 
-// The hard bits of the symbols.
-fn write_bits(s: &[u8], out: &mut [u8])
-    requires { ⌜ length (now out) ≡ length (now s) ⌝ }
-    ensures { λ _. ⌜ now (out .exit) ≡ hardBits (now (s .entry)) ⌝ }
+// The hard bits of the symbols from `from` on.
+fn write_bits(s: &[u8], from: usize, out: &mut [u8])
+    requires { ⌜ from + length (now out) ≡ length (now s) ⌝ }
+    ensures { λ _. ⌜ now (out .exit) ≡ drop from (hardBits (now (s .entry))) ⌝ }
 {
     let mut i = 0;
-    while i < s.len() {
-        out[i] = s[i] / 16;
+    while i < out.len() {
+        out[i] = s[from + i] / 16;
         i += 1;
     }
 }
 
-// Flips the weak positions that test word j flips.
-fn flip_weak(out: &mut [u8], keys: Keys, p: usize, j: usize)
-    requires { ⌜ Bits (now out) × (p ≤ 8) × (length (keys .at) ≡ 8) × Distinct (length (now out)) (placesOf (keys .at) p) ⌝ }
-    ensures { λ _. ⌜ now (out .exit) ≡ testWord j (placesOf (keys .at) p) (now (out .entry)) ⌝ }
+// Flips the weak positions that test word j flips, in the bits of a word from `from` on.
+fn flip_weak(out: &mut [u8], from: usize, keys: Keys, p: usize, j: usize)
+    requires { ⌜ Bits (now out) × (p ≤ 8) × (length (keys .at) ≡ 8) × Distinct (from + length (now out)) (placesOf (keys .at) p) ⌝ }
+    ensures { λ _. ⌜ now (out .exit) ≡ flippedFrom from (chosen j (placesOf (keys .at) p)) (now (out .entry)) ⌝ }
 {
     let at = keys.at;
     let mut r = j;
     let mut k = 0;
     while k < p {
         if r % 2 == 1 {
-            let x = ranking::place_of(at[k]);
-            out[x] = 1 - out[x];
+            hard_stage::flip(out, from, ranking::place_of(at[k]));
         }
         r = r / 2;
         k += 1;
     }
 }
 
-// The codeword of a candidate: test word j flipped at f.
-fn write_word(s: &[u8], keys: Keys, p: usize, j: usize, f: Flips, out: &mut [u8])
+// The codeword of a candidate from `from` on: test word j flipped at f.
+fn write_word(s: &[u8], keys: Keys, p: usize, j: usize, f: Flips, from: usize, out: &mut [u8])
     requires { ⌜ Ready (now s) (keys .at) p ⌝ }
-    requires { ⌜ (length (now out) ≡ length (now s)) × Placed (length (now s)) (f .count) (f .at) ⌝ }
-    ensures { λ _. ⌜ now (out .exit) ≡ flippedAt (flipsOf f) (test p (now (s .entry)) j) ⌝ }
+    requires { ⌜ (from + length (now out) ≡ length (now s)) × Placed (length (now s)) (f .count) (f .at) ⌝ }
+    ensures { λ _. ⌜ now (out .exit) ≡ drop from (flippedAt (flipsOf f) (test p (now (s .entry)) j)) ⌝ }
 {
-    write_bits(s, out);
-    flip_weak(out, keys, p, j);
-    hard_stage::flip_at(out, f);
+    write_bits(s, from, out);
+    flip_weak(out, from, keys, p, j);
+    hard_stage::flip_at(out, from, f);
 }
 
 // A - L.
@@ -104,11 +105,18 @@ fn tell(o: Outcome) -> Soft
     }
 }
 
-// The soft stage with tables that are filled: the outcome is known before the buffer is written.
-pub fn decode_word(c: Code, tables: &[u32], p: usize, s: &[u8], codeword: &mut [u8]) -> Outcome
-    requires { ⌜ Filled c (now tables) × (p ≤ 6) × (length (now s) ≡ c .n) × (length (now codeword) ≡ c .n) × Symbols (now s) ⌝ }
+// The soft stage with tables that are filled: the outcome is known before the buffer is written, with the codeword from `from` on.
+pub fn decode_word(
+    c: Code,
+    tables: &[u32],
+    p: usize,
+    s: &[u8],
+    from: usize,
+    out: &mut [u8],
+) -> Outcome
+    requires { ⌜ Filled c (now tables) × (p ≤ 6) × (length (now s) ≡ c .n) × Symbols (now s) × (from + length (now out) ≡ c .n) ⌝ }
     ensures { λ r. ⌜ (outcomeOf p (now (s .entry)) r ≡ softStage (codeOf c) p (now (s .entry))) × Sound (c .n) (r .pick) ⌝ }
-    ensures { λ _. ⌜ now (codeword .exit) ≡ softWritten (softStage (codeOf c) p (now (s .entry))) (now (codeword .entry)) ⌝ }
+    ensures { λ _. ⌜ now (out .exit) ≡ writtenFrom from (softStage (codeOf c) p (now (s .entry))) (now (out .entry)) ⌝ }
 {
     let keys = ranking::keys_of(s, c.distance(), p);
     let o = search::search(c, tables, s, keys, p);
@@ -116,7 +124,7 @@ pub fn decode_word(c: Code, tables: &[u32], p: usize, s: &[u8], codeword: &mut [
     if !found {
         return o;
     }
-    write_word(s, keys, p, o.pick.place, o.pick.flips, codeword);
+    write_word(s, keys, p, o.pick.place, o.pick.flips, from, out);
     o
 }
 
@@ -129,7 +137,7 @@ fn decode_in(c: Code, tables: &mut [u32], p: usize, s: &[u8], codeword: &mut [u8
 {
     tables::fill_field(c, tables);
     tables::fill_roots(c, tables);
-    tell(decode_word(c, tables, p, s, codeword))
+    tell(decode_word(c, tables, p, s, 0, codeword))
 }
 
 // The soft stage, with tables of its own, as large as m asks for.

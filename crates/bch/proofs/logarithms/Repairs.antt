@@ -1,17 +1,18 @@
 -- The hard stage's answer from the positions found, whatever they were read from: lost where there are none, and otherwise the word
 -- flipped at them, one after the other. Assumes nothing.
-use Prim.Native.Nat.{ℕ, _+_, _-_, _≤_, _<_}
+use Prim.Native.Nat.{ℕ, _+_, _≤_, _<_}
 use native.Mathlib.Omega.{arith}
 use mathlib.Core.Path.{_≡_, sym, ap, _∙_}
 use mathlib.Core.Bool.{Bool, true, false}
 use mathlib.Core.List.{List, []}
 use mathlib.Core.Option.{Option, none, some, Option·map, Option·getD}
-use lib.ListN.{length, getD, take, drop, set}
+use lib.ListN.{length, getD, take, drop}
 use lib.Seq.{drop-length, length-take-le, getD-take}
-use Rattle.bch.specs.Words.{Below, flip, flippedAt}
+use Rattle.bch.specs.Words.{Below, flippedAt}
 use Rattle.bch.specs.Code.{Code}
 use Rattle.bch.specs.Hard.{Repair, hardStage, hardFlips, hardWritten}
 use Rattle.bch.proofs.codes.Entries.{below-in}
+use Rattle.bch.proofs.codes.Behind.{flipFrom, flippedFrom}
 use Rattle.bch.proofs.decoding.Decoder.{isBelow, isBelow→, when-some}
 use Rattle.bch.proofs.decoding.KappaSums.{within}
 use Rattle.bch.proofs.tables.Placing.{positions, Placed, next}
@@ -53,21 +54,22 @@ module _ (c : Code) (xs : List ℕ) (found : Bool) (count : ℕ) (ps : List ℕ)
       sym (ap (λ (o : Option Repair). Option·getD (Option·map (λ (r : Repair). r .word) o) old) staged),
     )
 
--- ---- flipping one position after the other
+-- ---- flipping one position after the other, in the bits from `from` on
 
-pub flip-more : (count i p : ℕ) (ps xs : List ℕ) {r : List ℕ} → count ≤ length ps → i < count → p ≡ getD ps i 0
-    → flippedAt (drop i (take count ps)) xs ≡ r → flippedAt (drop (i + 1) (take count ps)) (set xs p (1 - getD xs p 0)) ≡ r
-unfolding flippedAt flip
-flip-more count i p ps xs l h q old =
-    ap (λ (j : ℕ). flippedAt (drop (i + 1) (take count ps)) (set xs j (1 - getD xs j 0))) q
-    ∙ sym (ap (λ (P : List ℕ). flippedAt P xs) (next ps count i l h)) ∙ old
+pub flip-more : (from count i p : ℕ) (ps ys : List ℕ) {r : List ℕ} → count ≤ length ps → i < count → p ≡ getD ps i 0
+    → flippedFrom from (drop i (take count ps)) ys ≡ r → flippedFrom from (drop (i + 1) (take count ps)) (flipFrom from p ys) ≡ r
+unfolding flippedFrom
+flip-more from count i p ps ys l h q old =
+    ap (λ (j : ℕ). flippedFrom from (drop (i + 1) (take count ps)) (flipFrom from j ys)) q
+    ∙ sym (ap (λ (P : List ℕ). flippedFrom from P ys) (next ps count i l h)) ∙ old
 
-pub flip-end : (count i : ℕ) (ps xs : List ℕ) {r : List ℕ} → count ≤ length ps → i ≡ count → flippedAt (drop i (take count ps)) xs ≡ r → xs ≡ r
-unfolding flippedAt
-flip-end count i ps xs l h old =
+pub flip-end : (from count i : ℕ) (ps ys : List ℕ) {r : List ℕ} → count ≤ length ps → i ≡ count
+    → flippedFrom from (drop i (take count ps)) ys ≡ r → ys ≡ r
+unfolding flippedFrom
+flip-end from count i ps ys l h old =
     let e : drop i (take count ps) ≡ [] =
     ap (λ (j : ℕ). drop j (take count ps)) (h ∙ sym (length-take-le count ps l)) ∙ drop-length (take count ps) in
-    sym (ap (λ (P : List ℕ). flippedAt P xs) e) ∙ old
+    sym (ap (λ (P : List ℕ). flippedFrom from P ys) e) ∙ old
 
 -- ---- positions below n
 

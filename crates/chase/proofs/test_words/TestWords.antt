@@ -1,5 +1,5 @@
 -- Test words: test word j is the hard bits flipped at the weak positions that j chooses. How it is had from the test word
--- without its highest bit, how a loop writes it, and how a loop looks for a position among those chosen. Assumes nothing.
+-- without its highest bit, and how a loop goes through the positions chosen. Assumes nothing.
 use Prim.Native.Nat.{ℕ, zero, suc, _+_, _/_, _%_, _^_, _<_}
 use native.Mathlib.Omega.{arith}
 use native.Mathlib.Nat.{pow-succ'}
@@ -9,8 +9,8 @@ use mathlib.Core.Bool.{Bool, true, false, cond}
 use mathlib.Core.List.{List, [], _∷_, _++_}
 use borrow.Author.Tests.{eq-eqb, ne-eqb}
 use lib.Dec.{eqb}
-use lib.ListN.{length, getD, drop}
-use lib.Seq.{drop-cons, drop-length, ext-getD}
+use lib.ListN.{length, getD, drop, length-drop}
+use lib.Seq.{drop-cons, drop-length, getD-drop, ext-getD}
 use Rattle.bch.specs.Words.{flip, flippedAt, isIn, Distinct}
 use Rattle.bch.proofs.codes.Flipped.{flipped-append, is-in-cons}
 use Rattle.chase.specs.Soft.{hardBits, testWord}
@@ -92,52 +92,39 @@ chosen-distinct n j (w ∷ ws) d = go (eqb (j % 2) 1) (chosen-distinct n (j / 2)
     go true i = (d .0, chosen-absent w (j / 2) ws (d .1), i)
     go false i = i
 
--- ---- looking for a position among those chosen
+-- ---- going through the weak positions
 
-module _ (x r k : ℕ) (ws : List ℕ) (more : k < length ws) where
-  -- it is the one that is looked at
-  pub chosen-hit : r % 2 ≡ 1 → getD ws k 0 ≡ x → isIn x (chosen r (drop k ws)) ≡ true
-  unfolding chosen isIn
-  chosen-hit o e = rw (drop-cons ws k 0 more, eq-eqb (r % 2) 1 o, eq-eqb x (getD ws k 0) (sym e))
-
-  -- it is another
-  pub chosen-miss : r % 2 ≡ 1 → (getD ws k 0 ≡ x → ⊥) → isIn x (chosen r (drop k ws)) ≡ isIn x (chosen (r / 2) (drop (k + 1) ws))
-  unfolding chosen isIn
-  chosen-miss o n = rw (add-one, drop-cons ws k 0 more, eq-eqb (r % 2) 1 o, ne-eqb x (getD ws k 0) (λ e. n (sym e)))
-
-  -- the one that is looked at is not flipped
-  pub chosen-skip : (r % 2 ≡ 1 → ⊥) → isIn x (chosen r (drop k ws)) ≡ isIn x (chosen (r / 2) (drop (k + 1) ws))
+module _ (r k : ℕ) (ws : List ℕ) (more : k < length ws) where
+  -- the one that is looked at is chosen, ..
+  pub chosen-next : r % 2 ≡ 1 → chosen r (drop k ws) ≡ getD ws k 0 ∷ chosen (r / 2) (drop (k + 1) ws)
   unfolding chosen
-  chosen-skip n = rw (add-one, drop-cons ws k 0 more, ne-eqb (r % 2) 1 n)
+  chosen-next o = rw (add-one, drop-cons ws k 0 more, eq-eqb (r % 2) 1 o)
+
+  -- .. or it is not
+  pub chosen-past : (r % 2 ≡ 1 → ⊥) → chosen r (drop k ws) ≡ chosen (r / 2) (drop (k + 1) ws)
+  unfolding chosen
+  chosen-past n = rw (add-one, drop-cons ws k 0 more, ne-eqb (r % 2) 1 n)
+
+  -- looking for position x: it is that one, ..
+  pub chosen-hit : (x : ℕ) → r % 2 ≡ 1 → getD ws k 0 ≡ x → isIn x (chosen r (drop k ws)) ≡ true
+  unfolding isIn
+  chosen-hit x o e = ap (isIn x) (chosen-next o) ∙ rw (eq-eqb x (getD ws k 0) (sym e))
+
+  -- .. or another
+  pub chosen-miss : (x : ℕ) → r % 2 ≡ 1 → (getD ws k 0 ≡ x → ⊥) → isIn x (chosen r (drop k ws)) ≡ isIn x (chosen (r / 2) (drop (k + 1) ws))
+  unfolding isIn
+  chosen-miss x o n = ap (isIn x) (chosen-next o) ∙ rw (ne-eqb x (getD ws k 0) (λ e. n (sym e)))
 
 -- none is left
-pub chosen-end : (x r k : ℕ) (ws : List ℕ) → k ≡ length ws → isIn x (chosen r (drop k ws)) ≡ false
-unfolding chosen isIn
-chosen-end x r k ws e = rw (e, drop-length)
+pub chosen-over : (r k : ℕ) (ws : List ℕ) → k ≡ length ws → chosen r (drop k ws) ≡ []
+unfolding chosen
+chosen-over r k ws e = rw (e, drop-length)
 
--- ---- writing a test word: the hard bits, and then one weak position after the other
+-- ---- the hard bits
 
--- a list that holds the hard bits of symbols
-pub hard-filled : (ss ys : List ℕ) → length ys ≡ length ss → ((k : ℕ) → k < length ss → getD ys k 0 ≡ getD ss k 0 / 16) → ys ≡ hardBits ss
-hard-filled ss ys l h =
-    ext-getD 0 ys (hardBits ss) (l ∙ sym (length-hard ss)) (λ i w. h i (omega arith) ∙ sym (hard-at ss i))
-
-module _ (r k : ℕ) (ws ys : List ℕ) (more : k < length ws) where
-  -- the next weak position is flipped ..
-  pub weak-flip : r % 2 ≡ 1 → testWord r (drop k ws) ys ≡ testWord (r / 2) (drop (k + 1) ws) (flip ys (getD ws k 0))
-  unfolding testWord
-  weak-flip o =
-      rw (add-one, drop-cons ws k 0 more)
-      (ap (λ (b : Bool). testWord (r / 2) (drop (suc k) ws) (cond b (flip ys (getD ws k 0)) ys)) (eq-eqb (r % 2) 1 o))
-
-  -- .. or not
-  pub weak-keep : (r % 2 ≡ 1 → ⊥) → testWord r (drop k ws) ys ≡ testWord (r / 2) (drop (k + 1) ws) ys
-  unfolding testWord
-  weak-keep n =
-      rw (add-one, drop-cons ws k 0 more)
-      (ap (λ (b : Bool). testWord (r / 2) (drop (suc k) ws) (cond b (flip ys (getD ws k 0)) ys)) (ne-eqb (r % 2) 1 n))
-
--- none is left
-pub weak-end : (r k : ℕ) (ws ys : List ℕ) → k ≡ length ws → testWord r (drop k ws) ys ≡ ys
-unfolding testWord
-weak-end r k ws ys e = rw (e, drop-length)
+-- a list that holds those of symbols from `from` on
+pub hard-filled : (from : ℕ) (ss ys : List ℕ) → from + length ys ≡ length ss → ((k : ℕ) → k < length ys → getD ys k 0 ≡ getD ss (from + k) 0 / 16)
+    → ys ≡ drop from (hardBits ss)
+hard-filled from ss ys l h =
+    ext-getD 0 ys (drop from (hardBits ss)) (simp length-drop (omega (arith, length-hard ss)))
+    (λ i w. h i w ∙ sym (hard-at ss (from + i)) ∙ sym (getD-drop from (hardBits ss) i 0))

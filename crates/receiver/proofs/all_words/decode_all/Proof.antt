@@ -25,13 +25,13 @@ use Rattle.receiver.proofs.all_words.decode_all.Statement.{statement}
 use Rattle.receiver.proofs.all_words.decode_all.Tie as tie
 
 abbrev Inv-loop : tie.InvT-loop
-Inv-loop c tables p symbols codeword₀ messages₀ marks₀ n k totals₀ at₀ to₀ w₀ codeword messages marks totals at to w =
-    (w ≤ length marks₀) × (at ≡ w * c .n) × (to ≡ w * messageLength (codeOf c)) × (length codeword ≡ c .n)
+Inv-loop c tables p symbols messages₀ marks₀ n k totals₀ at₀ to₀ w₀ messages marks totals at to w =
+    (w ≤ length marks₀) × (at ≡ w * c .n) × (to ≡ w * messageLength (codeOf c))
     × (length messages ≡ length messages₀) × (length marks ≡ length marks₀)
     × Done (codeOf c) p w symbols messages marks (totalsTold totals) × Few w (totalsTold totals)
 
 abbrev μ-loop : tie.MeasureT-loop
-μ-loop c tables p symbols codeword₀ messages₀ marks₀ n k totals₀ at₀ to₀ w₀ codeword messages marks totals at to w = length marks₀ - w
+μ-loop c tables p symbols messages₀ marks₀ n k totals₀ at₀ to₀ w₀ messages marks totals at to w = length marks₀ - w
 
 -- word w lies inside
 room : (w W n : ℕ) → w < W → w * n + n ≤ W * n
@@ -115,7 +115,7 @@ module _ (s : tie.Start Inv-loop μ-loop) where
       × (w * long + long ≤ length (s .args .messages .now)) × (length (s .args .messages .now) ≤ 67042305)
   inside w h =
       let ok = s .pre .1 in
-      let W = s .pre .0 .2 in
+      let W = s .pre .0 .1 in
       let n = word-short code (s .pre .0 .0 .fielded .made .lawful) in
       let k : long ≤ 1023 = omega (arith, n) in (
         omega (arith, ok .long, room w words (code .n) h),
@@ -133,30 +133,30 @@ module _ (s : tie.Start Inv-loop μ-loop) where
 
 -- at the loop's test, where word w is there
 module _ (o : tie.In-loop Inv-loop μ-loop) where
-  word-here : o .before .loop .w < length (o .before .before .before .before .before .before .before .before .before .args .marks .now)
-  word-here = subst (λ (n : ℕ). o .before .loop .w < n) (o .before .loop .inv .5) (o .loop-test .taken)
+  word-here : o .before .loop .w < length (o .before .before .before .before .before .before .before .before .args .marks .now)
+  word-here = subst (λ (n : ℕ). o .before .loop .w < n) (o .before .loop .inv .4) (o .loop-test .taken)
 
   symbols-end : o .before .loop .at + o .before .before .before .length .result
-      ≤ length (o .before .before .before .before .before .before .before .before .before .args .symbols .now)
+      ≤ length (o .before .before .before .before .before .before .before .before .args .symbols .now)
   symbols-end =
-      let s = o .before .before .before .before .before .before .before .before .before in
+      let s = o .before .before .before .before .before .before .before .before in
       ends _ _ _ _ _ (o .before .loop .inv .1) (o .before .before .before .length .ensures) (inside s (o .before .loop .w) word-here .0)
 
   symbols-fit : Fits w64 (o .before .loop .at + o .before .before .before .length .result)
   symbols-fit =
-      let s = o .before .before .before .before .before .before .before .before .before in
+      let s = o .before .before .before .before .before .before .before .before in
       end-fits _ _ _ symbols-end (inside s (o .before .loop .w) word-here .1)
 
   messages-end : o .before .loop .to + o .before .before .message-length .result
-      ≤ length (o .before .before .before .before .before .before .before .before .before .args .messages .now)
+      ≤ length (o .before .before .before .before .before .before .before .before .args .messages .now)
   messages-end =
-      let s = o .before .before .before .before .before .before .before .before .before in
+      let s = o .before .before .before .before .before .before .before .before in
       let k = is-long s _ (o .before .before .message-length .ensures) in
       ends _ _ _ _ _ (o .before .loop .inv .2) k (inside s (o .before .loop .w) word-here .2)
 
   messages-fit : Fits w64 (o .before .loop .to + o .before .before .message-length .result)
   messages-fit =
-      let s = o .before .before .before .before .before .before .before .before .before in
+      let s = o .before .before .before .before .before .before .before .before in
       end-fits _ _ _ messages-end (inside s (o .before .loop .w) word-here .3)
 
 length-requires : tie.Need-length-requires Inv-loop μ-loop
@@ -167,12 +167,11 @@ message-length-requires c κs = search needs
 
 loop-holds : tie.Need-loop-holds Inv-loop μ-loop
 loop-holds c =
-    let s = c .before .before .before .before .before .before .before in
+    let s = c .before .before .before .before .before .before in
     let a = s .args in (
       omega arith,
       sym (zero-mul (a .c .n)),
       sym (zero-mul (long s)),
-      s .pre .0 .1,
       refl,
       refl,
       done-start (code s) (a .p) (a .symbols .now) (a .messages .now) (a .marks .now),
@@ -192,7 +191,7 @@ part-decode-word-end : tie.Need-part-decode-word-end Inv-loop μ-loop
 part-decode-word-end c = symbols-end c
 
 add-decode-word-2 : tie.Need-add-decode-word-2 Inv-loop μ-loop
-add-decode-word-2 c = messages-fit (c .before .before)
+add-decode-word-2 c = messages-fit (c .before)
 
 sub-decode-word-2 : tie.Need-sub-decode-word-2 Inv-loop μ-loop
 sub-decode-word-2 c = starts _ _
@@ -202,55 +201,58 @@ part-decode-word-start-2 c = starts _ _
 
 part-decode-word-end-2 : tie.Need-part-decode-word-end-2 Inv-loop μ-loop
 part-decode-word-end-2 c =
-    let o = c .before .before in
-    subst (λ (n : ℕ). o .before .loop .to + o .before .before .message-length .result ≤ n) (sym (o .before .loop .inv .4)) (messages-end o)
+    let o = c .before in
+    subst (λ (n : ℕ). o .before .loop .to + o .before .before .message-length .result ≤ n) (sym (o .before .loop .inv .3)) (messages-end o)
 
 decode-word-requires : tie.Need-decode-word-requires Inv-loop μ-loop
 decode-word-requires c κs =
-    let o = c .before .before .before in
-    let s = o .before .before .before .before .before .before .before .before .before in
+    let o = c .before .before in
+    let s = o .before .before .before .before .before .before .before .before in
     let l = o .before .loop in
     let n = o .before .before .before .length in
     let k = o .before .before .message-length in
     let full = word-long s (l .w) (l .at) (n .result) (word-here o) (n .ensures) (l .inv .1) in (
-      (s .pre .0 .0, s .pre .1 .depth, full, l .inv .3, word-symbols s (l .at) (l .at + n .result - l .at)),
-      part-long (l .to) (k .result) _ (l .messages) (l .inv .4) (messages-end o) ∙ k .ensures,
+      s .pre .0 .0,
+      s .pre .1 .depth,
+      full,
+      word-symbols s (l .at) (l .at + n .result - l .at),
+      part-long (l .to) (k .result) _ (l .messages) (l .inv .3) (messages-end o) ∙ k .ensures,
     )
 
 mark-of-requires : tie.Need-mark-of-requires Inv-loop μ-loop
 mark-of-requires c κs = search needs
 
 slice-write-marks : tie.Need-slice-write-marks Inv-loop μ-loop
-slice-write-marks c = c .before .before .before .before .before .before .before .before .before .loop-test .taken
+slice-write-marks c = c .before .before .before .before .before .before .loop-test .taken
 
 add-requires : tie.Need-add-requires Inv-loop μ-loop
 add-requires c κs = search needs
 
 add-at : tie.Need-add-at Inv-loop μ-loop
-add-at c = symbols-fit (c .before .before .before .before .before .before .before .before .before .before)
+add-at c = symbols-fit (c .before .before .before .before .before .before .before)
 
 add-to : tie.Need-add-to Inv-loop μ-loop
-add-to c = messages-fit (c .before .before .before .before .before .before .before .before .before .before)
+add-to c = messages-fit (c .before .before .before .before .before .before .before)
 
 add-w : tie.Need-add-w Inv-loop μ-loop
 add-w c =
-    let o = c .before .before .before .before .before .before .before .before .before .before in
-    word-fits _ _ (word-here o) (o .before .before .before .before .before .before .before .before .before .pre .0 .2)
+    let o = c .before .before .before .before .before .before .before in
+    word-fits _ _ (word-here o) (o .before .before .before .before .before .before .before .before .pre .0 .1)
 
 loop-less : tie.Need-loop-less Inv-loop μ-loop
-loop-less c = falls _ _ (word-here (c .before .before .before .before .before .before .before .before .before .before))
+loop-less c = falls _ _ (word-here (c .before .before .before .before .before .before .before))
 
 loop-again : tie.Need-loop-again Inv-loop μ-loop
 loop-again c =
-    let o = c .before .before .before .before .before .before .before .before .before .before in
-    let s = o .before .before .before .before .before .before .before .before .before in
+    let o = c .before .before .before .before .before .before .before in
+    let s = o .before .before .before .before .before .before .before .before in
     let a = s .args in
     let l = o .before .loop in
     let h = word-here o in
     let n = o .before .before .before .length in
     let k = o .before .before .message-length in
     let is-k = is-long s (k .result) (k .ensures) in
-    let w = c .before .before .before .before .before .before .decode-word in
+    let w = c .before .before .before .before .decode-word in
     let m = c .before .mark-of in
     let b = code s in
     let made = s .pre .0 .0 .fielded .made in
@@ -262,45 +264,41 @@ loop-again c =
     let tried = tries-most b (made .lawful) fits (a .p) ss full symbols in
     let counted = countedOf (totalsTold (l .totals)) (m .result) (w .result .tries) in
     let few =
-    few-more (l .w) (totalsTold (l .totals)) (l .inv .7) (m .result) (w .result .tries)
+    few-more (l .w) (totalsTold (l .totals)) (l .inv .6) (m .result) (w .result .tries)
     (at-most _ _ _ (w .ensures .0 .1) tried (pow-mono (s .pre .1 .depth))) in
     let told : totalsTold (c .add .result) ≡ counted =
-    c .add .ensures ∙ few-capped (l .w + 1) counted few (words-few _ _ h (s .pre .0 .2)) in
+    c .add .ensures ∙ few-capped (l .w + 1) counted few (words-few _ _ h (s .pre .0 .1)) in
     let written = ap length (w .ensures .1) ∙ message-long b (made .lawful) fits (a .p) ss full symbols in
     let room = inside s (l .w) h .2 in
     let done =
-    done-more b (a .p) (xs s) (l .w) (l .messages) (l .marks) (totalsTold (l .totals)) (l .inv .6) (l .to) (m .result) (w .result .tries) _ _ (l .inv .2)
-    (begins _ _ _ _ _ (l .inv .2) (l .inv .4) room) (o .loop-test .taken)
+    done-more b (a .p) (xs s) (l .w) (l .messages) (l .marks) (totalsTold (l .totals)) (l .inv .5) (l .to) (m .result) (w .result .tries) _ _ (l .inv .2)
+    (begins _ _ _ _ _ (l .inv .2) (l .inv .3) room) (o .loop-test .taken)
     (w .ensures .1 ∙ ap (λ (ss : List ℕ). message b (softStage b (a .p) ss)) e) written
     (m .ensures ∙ w .ensures .0 .0 ∙ ap (λ (ss : List ℕ). markByte (softStage b (a .p) ss .mark)) e)
     (w .ensures .0 .1 ∙ ap (λ (ss : List ℕ). softStage b (a .p) ss .tries) e) in (
       next-word _ _ h,
       more (l .w) (a .c .n) (l .at) (n .result) (n .ensures) (l .inv .1),
       more (l .w) (long s) (l .to) (k .result) is-k (l .inv .2),
-      w .kept .1 .1 .1 .1 .0 ∙ l .inv .3,
-      omega (arith, l .inv .4, c .before .before .before .messages .given),
-      simp length-set (l .inv .5),
+      omega (arith, l .inv .3, c .before .before .before .messages .given),
+      simp length-set (l .inv .4),
       rw told done,
       subst (Few (l .w + 1)) (sym told) few,
     )
 
 same-length : tie.Need-same-length Inv-loop μ-loop
-same-length c = search needs
+same-length c = c .before .loop .inv .3
 
 same-length-2 : tie.Need-same-length-2 Inv-loop μ-loop
 same-length-2 c = c .before .loop .inv .4
 
-same-length-3 : tie.Need-same-length-3 Inv-loop μ-loop
-same-length-3 c = c .before .loop .inv .5
-
 returns : tie.Need-returns Inv-loop μ-loop
 returns c =
-    let s = c .before .before .before .before .before .before .before .before .before in
+    let s = c .before .before .before .before .before .before .before .before in
     let a = s .args in
     let l = c .before .loop in
-    let e : l .w ≡ words s = all-done _ _ _ (l .inv .5) (c .loop-test .left) (l .inv .0) in
-    let d = done-end (code s) (a .p) (xs s) (l .w) (l .messages) (l .marks) _ (l .inv .6)
-    (l .inv .4 ∙ s .pre .1 .messages-room ∙ ap (λ (x : ℕ). x * long s) (sym e)) (l .inv .5 ∙ sym e) in
+    let e : l .w ≡ words s = all-done _ _ _ (l .inv .4) (c .loop-test .left) (l .inv .0) in
+    let d = done-end (code s) (a .p) (xs s) (l .w) (l .messages) (l .marks) _ (l .inv .5)
+    (l .inv .3 ∙ s .pre .1 .messages-room ∙ ap (λ (x : ℕ). x * long s) (sym e)) (l .inv .4 ∙ sym e) in
     (rw e at (d .0), (rw e at (d .1), rw e at (d .2)))
 
 pub decode-all-spec : {M : Type 1} → statement M
@@ -331,5 +329,4 @@ decode-all-spec =
     loop-again
     same-length
     same-length-2
-    same-length-3
     returns)

@@ -34,7 +34,7 @@ mul-where-set : tie.Need-mul-where-set Inv-loop μ-loop
 mul-where-set c = search needs
 
 shared-slice-read-where-set-2 : tie.Need-shared-slice-read-where-set-2 Inv-loop μ-loop
-shared-slice-read-where-set-2 c = 
+shared-slice-read-where-set-2 c =
     let f = c .before .before .before .before .before .before .pre .0 in
     omega (arith, f .made .is-powers, f .made .lawful .n-most, f .field .long)
 

@@ -1,11 +1,13 @@
 -- Lost where nothing is found, and otherwise the bits flipped. Assumes nothing.
 use Prim.Native.Nat.{_≤_}
+use native.Mathlib.Nat.{zero-add}
 use native.Mathlib.Omega.{arith}
 use mathlib.Core.Path.{ap, _∙_}
 use mathlib.Core.Logic.{inr}
 use borrow.Author.Tests.{not-true, not-false}
 use lib.ListN.{length, take}
 use Rattle.bch.specs.Words.{flippedAt}
+use Rattle.bch.proofs.codes.Behind.{flipped-whole}
 use Rattle.bch.proofs.logarithms.Repairs.{lost-answer, found-answer}
 use Rattle.refusal.specs.Named.{codeOf}
 use Rattle.receiver.specs.Answer.{hardOf}
@@ -29,7 +31,7 @@ flip-at-requires : tie.Need-flip-at-requires
 flip-at-requires c κs =
     let s = c .before .before .before .before .before .before .before .before in
     let e = c .before .before .before .copy .ensures in
-    (rw e (s .pre .0 .2), rw (e, s .pre .0 .0) (s .pre .1 .1 (not-false _ (c .before .before .before .before .before .if1 .left))))
+    (rw e (s .pre .0 .2), rw (e, s .pre .0 .0, zero-add) (s .pre .1 .1 (not-false _ (c .before .before .before .before .before .if1 .left))))
 
 same-length : tie.Need-same-length
 same-length c = search needs
@@ -45,7 +47,7 @@ returns-2 c =
     let room : f .count ≤ length (f .at) = omega (arith, p .few, p .long) in
     let h = found-answer (codeOf (a .c)) (a .bits .now) (f .found) (f .count) (f .at) (s .pre .1 .0) z room (a .codeword .now) in (
       ap inr (h .0),
-      c .before .before .flip-at .ensures
+      c .before .before .flip-at .ensures ∙ flipped-whole (take (f .count) (f .at)) _
           ∙ ap (flippedAt (take (f .count) (f .at))) (c .before .before .before .before .before .before .copy .ensures) ∙ h .1,
     )
 

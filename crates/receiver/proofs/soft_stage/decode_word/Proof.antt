@@ -4,8 +4,9 @@ use native.Mathlib.Omega.{arith}
 use mathlib.Core.Path.{ap, sym, _∙_, subst}
 use borrow.Author.Tests.{not-true, not-false}
 use lib.ListN.{length}
-use Rattle.chase.specs.Soft.{Answer, softWritten}
+use Rattle.chase.specs.Soft.{Answer}
 use Rattle.chase.proofs.search.Ready.{Deep}
+use Rattle.receiver.specs.Search.{writtenFrom}
 use Rattle.receiver.proofs.Tellings.{written-none, written-some}
 use Rattle.receiver.proofs.soft_stage.decode_word.Statement.{statement}
 use Rattle.receiver.proofs.soft_stage.decode_word.Tie as tie
@@ -21,7 +22,7 @@ keys-of-requires c κs =
     let d = c .distance .ensures ∙ made .is-d in
     let t = made .lawful in
     let few : length (s .args .s .now) ≤ 1023 = omega (arith, made .size-most, t .n-most, s .pre .2) in (
-      s .pre .4,
+      s .pre .3,
       few,
       omega (arith, d),
       omega (arith, d, t .t-most),
@@ -42,15 +43,16 @@ returns : tie.Need-returns
 returns c =
     let a = c .before .before .before .before .before .before .before .args in
     let o = c .before .search in
-    let old = a .codeword .now in (
+    let old = a .out .now in (
       o .ensures,
-      written-none (a .p) (a .s .now) (o .result) old (not-true _ (c .if1 .taken)) ∙ ap (λ (x : Answer). softWritten x old) (o .ensures .0),
+      written-none (a .p) (a .s .now) (a .from) (o .result) old (not-true _ (c .if1 .taken))
+          ∙ ap (λ (x : Answer). writtenFrom (a .from) x old) (o .ensures .0),
     )
 
 write-word-requires : tie.Need-write-word-requires
 write-word-requires c κs =
     let s = c .before .before .before .before .before .before .before .before in
-    (c .before .before .before .keys-of .ensures .ready, (s .pre .3 ∙ sym (s .pre .2), rw (s .pre .2) (c .before .before .search .ensures .1 .placed)))
+    (c .before .before .before .keys-of .ensures .ready, (s .pre .4 ∙ sym (s .pre .2), rw (s .pre .2) (c .before .before .search .ensures .1 .placed)))
 
 same-length : tie.Need-same-length
 same-length c = search needs
@@ -59,10 +61,11 @@ returns-2 : tie.Need-returns-2
 returns-2 c =
     let a = c .before .before .before .before .before .before .before .before .before .before .before .args in
     let o = c .before .before .before .before .before .search in
-    let old = a .codeword .now in (
+    let old = a .out .now in (
       o .ensures,
-      c .before .before .write-word .ensures ∙ written-some (a .p) (a .s .now) (o .result) old (not-false _ (c .before .before .before .before .if1 .left))
-          ∙ ap (λ (x : Answer). softWritten x old) (o .ensures .0),
+      c .before .before .write-word .ensures
+          ∙ written-some (a .p) (a .s .now) (a .from) (o .result) old (not-false _ (c .before .before .before .before .if1 .left))
+          ∙ ap (λ (x : Answer). writtenFrom (a .from) x old) (o .ensures .0),
     )
 
 pub decode-word-spec : {M : Type 1} → statement M

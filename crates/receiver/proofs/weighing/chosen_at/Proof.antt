@@ -1,11 +1,11 @@
 -- The positions that j flips are gone through one after the other. Assumes nothing.
 use Prim.Native.Nat.{_-_, _%_, _≤_, _<_}
 use native.Mathlib.Omega.{arith}
-use mathlib.Core.Path.{_≡_, refl, sym, _∙_}
+use mathlib.Core.Path.{_≡_, refl, ap, sym, _∙_}
 use mathlib.Core.Logic.{⊎-elim}
 use lib.ListN.{length, getD, drop}
 use Rattle.bch.specs.Words.{isIn}
-use Rattle.chase.proofs.test_words.TestWords.{chosen, chosen-hit, chosen-miss, chosen-skip, chosen-end}
+use Rattle.chase.proofs.test_words.TestWords.{chosen, chosen-hit, chosen-miss, chosen-past, chosen-over}
 use Rattle.chase.proofs.search.Ready.{placesOf, long-places, at-places}
 use borrow.Author.Needs.{needs}
 use Rattle.receiver.proofs.weighing.chosen_at.Statement.{statement}
@@ -37,7 +37,7 @@ returns c =
     let a = s .args in
     let l = c .before .before .before .before .loop in
     let ws = placesOf (a .keys .at) (a .p) in
-    sym (chosen-hit (a .x) (l .r) (l .k) ws (omega (arith, long-places (a .keys .at) (a .p) (omega arith))) (c .before .before .if1 .taken)
+    sym (chosen-hit (l .r) (l .k) ws (omega (arith, long-places (a .keys .at) (a .p) (omega arith))) (a .x) (c .before .before .if1 .taken)
     (at-places (a .keys .at) (a .p) (l .k) (omega arith) ∙ sym (c .before .place-of .ensures) ∙ c .if2 .taken)) ∙ l .inv .1
 
 add-k : tie.Need-add-k Inv-loop μ-loop
@@ -55,17 +55,18 @@ loop-again c =
     let h : l .k < length ws = omega (arith, long-places (a .keys .at) (a .p) (omega arith)) in
     let e : getD ws (l .k) 0 ≡ getD (a .keys .at) (l .k) 0 % 1024 = at-places (a .keys .at) (a .p) (l .k) (omega arith) in
     ⊎-elim
-    (λ w. (omega arith, sym (chosen-miss (a .x) (l .r) (l .k) ws h (w .0 .taken) (λ q. w .2 .left (w .1 .ensures ∙ sym e ∙ q))) ∙ l .inv .1))
-    (λ w. (omega arith, sym (chosen-skip (a .x) (l .r) (l .k) ws h (w .left)) ∙ l .inv .1))
+    (λ w. (omega arith, sym (chosen-miss (l .r) (l .k) ws h (a .x) (w .0 .taken) (λ q. w .2 .left (w .1 .ensures ∙ sym e ∙ q))) ∙ l .inv .1))
+    (λ w. (omega arith, sym (ap (isIn (a .x)) (chosen-past (l .r) (l .k) ws h (w .left))) ∙ l .inv .1))
     (c .if1 .came)
 
 returns-2 : tie.Need-returns-2 Inv-loop μ-loop
+unfolding isIn
 returns-2 c =
     let s = c .before .before .before in
     let a = s .args in
     let l = c .before .loop in
     let ws = placesOf (a .keys .at) (a .p) in
-    sym (chosen-end (a .x) (l .r) (l .k) ws (omega (arith, long-places (a .keys .at) (a .p) (omega arith)))) ∙ l .inv .1
+    sym (ap (isIn (a .x)) (chosen-over (l .r) (l .k) ws (omega (arith, long-places (a .keys .at) (a .p) (omega arith))))) ∙ l .inv .1
 
 pub chosen-at-spec : {M : Type 1} → statement M
 chosen-at-spec =

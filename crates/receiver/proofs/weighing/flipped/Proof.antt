@@ -8,17 +8,19 @@ use lib.ListN.{getD}
 use Rattle.bch.specs.Words.{isIn}
 use Rattle.chase.specs.Soft.{reliabilities}
 use Rattle.chase.specs.Word.{weakest}
-use Rattle.chase.proofs.test_words.TestWords.{chosen, chosen-end, chosen-none}
+use Rattle.chase.proofs.test_words.TestWords.{chosen, chosen-none, chosen-over}
 use Rattle.chase.proofs.search.Ready.{places-weak, long-weak, strong-unflipped}
 use Rattle.receiver.proofs.weighing.flipped.Statement.{statement}
 use Rattle.receiver.proofs.weighing.flipped.Tie as tie
 use borrow.Author.Needs.{needs}
 
 returns : tie.Need-returns
+unfolding isIn
 returns c =
     let s = c .before .before in
     let a = s .args in
-    sym (chosen-end (a .x) (a .j) 0 (weakest (a .p) (a .s .now)) (sym (long-weak (a .s .now) (a .keys .at) (a .p) (s .pre .0) ∙ c .if1 .taken)))
+    let none-weak = sym (long-weak (a .s .now) (a .keys .at) (a .p) (s .pre .0) ∙ c .if1 .taken) in
+    sym (ap (isIn (a .x)) (chosen-over (a .j) 0 (weakest (a .p) (a .s .now)) none-weak))
 
 returns-2 : tie.Need-returns-2
 unfolding isIn
