@@ -1,8 +1,8 @@
 -- The positions that are located, as a record. Cited by the contracts of private functions alone. Assumes nothing.
-use Prim.Native.Nat.{ℕ, _≤_, _<_}
+use Prim.Native.Nat.{ℕ, _/_, _^_, _≤_, _<_}
 use mathlib.Core.Path.{_≡_}
 use mathlib.Core.Bool.{true}
-use mathlib.Core.List.{List}
+use mathlib.Core.List.{List, map}
 use mathlib.Core.Option.{Option}
 use lib.ListN.{length, getD, take}
 use Rattle.bch.specs.Words.{Bits}
@@ -13,6 +13,10 @@ use Rattle.bch.proofs.tables.Placing.{Placed, positions}
 use Rattle.refusal.specs.Named.{codeOf}
 use Rattle.refusal.specs.declared.Code as refusal
 use Rattle.receiver.specs.declared.locate.Flips.{Flips}
+
+-- the bits that stand so high in bytes
+abbrev pub bitsAt : ℕ → List ℕ → List ℕ
+bitsAt shift xs = map (λ (x : ℕ). x / 2 ^ shift) xs
 
 -- the positions of a record
 abbrev pub flipsOf : Flips → List ℕ

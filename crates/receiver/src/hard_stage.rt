@@ -15,7 +15,7 @@ ghost use Rattle.bch.proofs.logarithms.LogBounds.{Syndromes};
 ghost use Rattle.bch.proofs.tables.TableLoops.{Rootless};
 ghost use Rattle.refusal.specs.Named.{codeOf, Made};
 ghost use Rattle.receiver.specs.Answer.{hardOf};
-ghost use Rattle.receiver.specs.Located.{flipsOf, Repairing};
+ghost use Rattle.receiver.specs.Located.{bitsAt, flipsOf, Repairing};
 ghost use Rattle.receiver.specs.Tables.{Fielded};
 use crate::Hard;
 use crate::locate;
@@ -25,25 +25,26 @@ use refusal::Code;
 
 // x where the bit is 1, and 0 where it is 0. (A mask: a choice would become a branch for the positions that are left over where the
 // compiler takes several at once.)
-pub fn where_set(bit: u8, x: u32) -> u32
+fn where_set(bit: u8, x: u32) -> u32
     requires { ⌜ bit < 2 ⌝ }
     ensures { λ r. ⌜ r ≡ bit * x ⌝ }
 {
     (bit as u32) * 4294967295 & x
 }
 
-// The first t syndromes in one number, in one pass without branches.
-fn syndromes(c: Code, tables: &[u32], bits: &[u8]) -> u32
-    requires { ⌜ Fielded c (now tables) × (length (now bits) ≡ c .n) × Bits (now bits) ⌝ }
-    ensures { λ r. ⌜ r ≡ syndromesOf (codeOf c) (now (bits .entry)) ⌝ }
+// The first t syndromes, in one number, of the bits that stand `shift` high in the bytes of a word: 0 for bits, 4 for symbols. In one
+// pass without branches.
+pub fn syndromes(c: Code, tables: &[u32], word: &[u8], shift: u8) -> u32
+    requires { ⌜ Fielded c (now tables) × (length (now word) ≡ c .n) × (shift < 8) × Bits (bitsAt shift (now word)) ⌝ }
+    ensures { λ r. ⌜ r ≡ syndromesOf (codeOf c) (bitsAt shift (now (word .entry))) ⌝ }
 {
     let m = c.m;
     let t = c.t;
     let from = c.powers;
     let mut acc: u32 = 0;
     let mut i = 0;
-    while i < bits.len() {
-        acc = acc ^ where_set(bits[i], tables[from + i]);
+    while i < word.len() {
+        acc = acc ^ where_set(word[i] >> shift, tables[from + i]);
         i += 1;
     }
     acc
@@ -125,7 +126,7 @@ fn decode_in(c: Code, tables: &mut [u32], bits: &[u8], codeword: &mut [u8]) -> H
     ensures { λ _. ⌜ now (codeword .exit) ≡ hardWritten (codeOf c) (now (bits .entry)) (now (codeword .entry)) ⌝ }
 {
     tables::fill_field(c, tables);
-    let s = syndromes(c, tables, bits);
+    let s = syndromes(c, tables, bits, 0);
     let f = located(c, tables, s);
     write(c, f, bits, codeword)
 }

@@ -8,6 +8,7 @@ ghost use Rattle.chase.specs.Soft.{hardBits, softStage};
 ghost use Rattle.chase.proofs.ranking.Allowances.{weighed};
 ghost use Rattle.refusal.specs.Named.{codeOf};
 ghost use Rattle.receiver.specs.Search.{nearerPick, judgedBy, outcomeOf, Ready, Sound, Tried, TestWords, Untried};
+use crate::hard_stage;
 use crate::locate;
 use crate::locate::Flips;
 use crate::ranking::Keys;
@@ -180,7 +181,7 @@ pub fn search(c: Code, tables: &[u32], s: &[u8], keys: Keys, p: usize) -> Outcom
     requires { ⌜ Ready c (now tables) (now s) (keys .at) p ⌝ }
     ensures { λ r. ⌜ (outcomeOf p (now (s .entry)) r ≡ softStage (codeOf c) p (now (s .entry))) × Sound (c .n) (r .pick) ⌝ }
 {
-    let base = test_words::syndromes(c, tables, s);
+    let base = hard_stage::syndromes(c, tables, s, 4);
     let sums = [base];
     let weights = [0u32];
     let o = try_on(c, tables, s, keys, p, &sums, &weights, untried());

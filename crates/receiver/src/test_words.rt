@@ -4,34 +4,12 @@ ghost use Prim.Native.Nat.{ℕ, _+_, _-_, _/_, _%_, _^_, _<_, _≤_};
 ghost use lib.Bits.{bitXor};
 ghost use lib.ListN.{length};
 ghost use Rattle.galois.proofs.FieldTables.{powersOf};
-ghost use Rattle.bch.proofs.logarithms.LogAnswers.{syndromesOf};
 ghost use Rattle.bch.proofs.tables.Placing.{lowerPart};
-ghost use Rattle.chase.specs.Soft.{hardBits};
-ghost use Rattle.chase.specs.Word.{Symbols};
 ghost use Rattle.chase.proofs.test_words.Doublings.{Doubled, Small};
-ghost use Rattle.refusal.specs.Named.{codeOf};
 ghost use Rattle.receiver.specs.Tables.{Fielded};
-use crate::hard_stage::where_set;
 use crate::ranking;
 use crate::tables;
 use refusal::Code;
-
-// The first t syndromes of the hard bits in one number.
-pub fn syndromes(c: Code, tables: &[u32], s: &[u8]) -> u32
-    requires { ⌜ Fielded c (now tables) × (length (now s) ≡ c .n) × Symbols (now s) ⌝ }
-    ensures { λ r. ⌜ r ≡ syndromesOf (codeOf c) (hardBits (now (s .entry))) ⌝ }
-{
-    let m = c.m;
-    let t = c.t;
-    let from = c.powers;
-    let mut acc: u32 = 0;
-    let mut i = 0;
-    while i < s.len() {
-        acc = acc ^ where_set(s[i] / 16, tables[from + i]);
-        i += 1;
-    }
-    acc
-}
 
 // Behind the first `size` entries, the field sum of each of them and v.
 fn double_xor(out: &mut [u32], size: usize, v: u32)

@@ -4,18 +4,26 @@ use native.Mathlib.Omega.{arith}
 use mathlib.Core.Path.{_≡_, refl, ap, sym, _∙_}
 use mathlib.Core.List.{[], _∷_}
 use lib.Pow.{pow-pos}
+use Rattle.bch.proofs.logarithms.LogAnswers.{syndromesOf}
+use Rattle.chase.specs.Soft.{hardBits}
+use Rattle.chase.proofs.test_words.Reach.{bits-hard}
 use Rattle.chase.proofs.search.Ready.{sums-first, weights-first}
 use Rattle.refusal.specs.Named.{codeOf}
 use Rattle.receiver.specs.Search.{TestWords}
+use Rattle.receiver.proofs.HighBits.{symbol-bits}
 use Rattle.receiver.proofs.Outcomes.{no-bool, tried-none, tried-all}
 use Rattle.receiver.proofs.search.search.Statement.{statement}
 use Rattle.receiver.proofs.search.search.Tie as tie
 use borrow.Author.Needs.{needs}
 
+-- what is added up are the syndromes of the hard bits
+summed : (c : tie.After-syndromes) → let a = c .before .before .before .args in c .syndromes .result ≡ syndromesOf (codeOf (a .c)) (hardBits (a .s .now))
+summed c = let a = c .before .before .before .args in c .syndromes .ensures ∙ ap (syndromesOf (codeOf (a .c))) (symbol-bits (a .s .now))
+
 syndromes-requires : tie.Need-syndromes-requires
 syndromes-requires c κs =
     let r = c .before .before .pre in
-    (r .filled .fielded, r .long, r .deep .ready .symbols)
+    (r .filled .fielded, r .long, omega arith, rw symbol-bits (bits-hard _ (r .deep .ready .symbols)))
 
 slice-aggregate-try-on : tie.Need-slice-aggregate-try-on
 slice-aggregate-try-on c = search needs
@@ -37,7 +45,7 @@ try-on-requires c κs =
     record {
       most = pow-pos (a .p);
       as-many = refl;
-      are-sums = sums-first (a .s .now) (a .keys .at) (a .p) (r .deep .ready) k base (base ∷ []) (c .before .before .before .syndromes .ensures) refl;
+      are-sums = sums-first (a .s .now) (a .keys .at) (a .p) (r .deep .ready) k base (base ∷ []) (summed (c .before .before .before)) refl;
       are-weights = weights-first (a .s .now) (a .keys .at) (a .p) (r .deep .ready) (0 ∷ []) refl;
     } in
     let u = c .untried .ensures in
@@ -60,7 +68,7 @@ search-on-requires : tie.Need-search-on-requires
 search-on-requires c κs =
     let s = c .before .before .before .before .before .before .before .before .before in
     let e = c .before .before .try-on .ensures in
-    ((s .pre, c .before .before .before .before .before .before .syndromes .ensures), (e .0, c .before .if1 .left, e .1 (c .before .if1 .left)))
+    ((s .pre, summed (c .before .before .before .before .before .before)), (e .0, c .before .if1 .left, e .1 (c .before .if1 .left)))
 
 returns-3 : tie.Need-returns-3
 returns-3 c =
