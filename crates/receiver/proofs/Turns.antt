@@ -1,17 +1,16 @@
 -- A turn of the search: from the outcome so far and what the next tries locate, the outcome after them. Assumes nothing.
-use Prim.Native.Nat.{ℕ, _-_, _^_, _≤_, _<_}
+use Prim.Native.Nat.{ℕ, _-_, _/_, _^_, _≤_, _<_}
 use native.Mathlib.Omega.{arith}
 use mathlib.Core.Path.{_≡_, sym, _∙_, subst}
 use mathlib.Core.Bool.{true, false}
 use mathlib.Core.List.{List}
-use mathlib.Core.Option.{Option, none, Option·map}
+use mathlib.Core.Option.{none, Option·map}
 use lib.ListN.{length, getD, take}
 use lib.Pow.{pow-mono}
 use lib.Seq.{length-take-le, getD-take}
 use Rattle.bch.specs.Words.{Distinct, flippedAt}
 use Rattle.bch.specs.Code.{Code, designDistance}
 use Rattle.bch.proofs.logarithms.LogAnswers.{syndromesOf}
-use Rattle.bch.proofs.logarithms.LogLocator.{locateIn}
 use Rattle.bch.proofs.tables.Placing.{Placed}
 use Rattle.bch.proofs.logarithms.Seeking.{Next}
 use Rattle.bch.proofs.codes.Settings.{Lawful}
@@ -19,13 +18,13 @@ use Rattle.chase.specs.Soft.{hardBits, reliabilities, candidate, tried}
 use Rattle.chase.specs.Word.{test}
 use Rattle.chase.proofs.ranking.Allowances.{weighed}
 use Rattle.chase.proofs.test_words.Doublings.{Holds}
-use Rattle.chase.proofs.search.Ready.{length-candidate, weighed-most}
+use Rattle.chase.proofs.search.Ready.{packedTest, length-candidate, test-sums, test-weight, weighed-most}
 use Rattle.chase.proofs.search.Steps.{skip}
 use Rattle.chase.proofs.search.Tries.{try-parts, try-missed, try-placed, try-distinct, try-some}
 use Rattle.chase.proofs.weighing.Weights.{Weighs, packedWeight, weighs-small}
 use Rattle.refusal.specs.Named.{codeOf}
 use Rattle.refusal.specs.declared.Code as refusal
-use Rattle.receiver.specs.Located.{flipsOf, AreSyndromes}
+use Rattle.receiver.specs.Located.{flipsOf, sumsAt, AreSyndromes, locatedAt}
 use Rattle.receiver.specs.Search.{pickOf, pickBy, judgedBy, Sound, Tried, Ready, TestWords}
 use Rattle.receiver.specs.declared.locate.Flips.{Flips}
 use Rattle.receiver.specs.declared.weighing.Weight.{Weight}
@@ -33,45 +32,37 @@ use Rattle.receiver.specs.declared.search.Outcome.{Outcome}
 use Rattle.receiver.proofs.Outcomes.{pick-some, tried-missed, tried-judged}
 
 -- the first test words, by doubling
-pub test-words : (c : Code) (p b to : ℕ) (ss sums weights : List ℕ) → b ≤ p → to ≡ 2 ^ b → to ≤ 64 → length sums ≡ 64
-    → length weights ≡ 64
-    → Holds (λ (j : ℕ). syndromesOf c (test p ss j)) (2 ^ b) sums
-    → Holds (λ (j : ℕ). packedWeight (reliabilities ss) (test p ss j) (hardBits ss)) (2 ^ b) weights
-    → TestWords c p ss (take to sums) (take to weights) × (length (take to sums) ≡ to)
-test-words c p b to ss sums weights h e m l u hs hw =
-    let long = length-take-le to sums (omega arith) in
+pub test-words : (c : Code) (p b to : ℕ) (ss ts : List ℕ) → b ≤ p → to ≡ 2 ^ b → to ≤ 64 → length ts ≡ 64 → Holds (packedTest c p ss) (2 ^ b) ts
+    → TestWords c p ss (take to ts) × (length (take to ts) ≡ to)
+test-words c p b to ss ts h e m l holds =
+    let long = length-take-le to ts (omega arith) in
     let most : 2 ^ b ≤ 2 ^ p = pow-mono h in (
-      record {
-        most = omega arith;
-        as-many = length-take-le to weights (omega arith) ∙ sym long;
-        are-sums = λ j i. (let k : j < to = omega arith in getD-take to sums j 0 k ∙ hs j (omega arith));
-        are-weights = λ j i. (let k : j < to = omega arith in getD-take to weights j 0 k ∙ hw j (omega arith));
-      },
+      record { most = omega arith; are-tests = λ j i. (let k : j < to = omega arith in getD-take to ts j 0 k ∙ holds j (omega arith)) },
       long,
     )
 
-module _ (c : refusal.Code) (ts ss ks : List ℕ) (p : ℕ) (sums weights : List ℕ) (ready : Ready c ts ss ks p)
-    (tests : TestWords (codeOf c) p ss sums weights) where
-  abbrev by : ℕ → Option (List ℕ)
-  by j = locateIn (c .m) (c .t) (c .n) ts (getD sums j 0)
-
+module _ (c : refusal.Code) (tables ss ks : List ℕ) (p : ℕ) (ts : List ℕ) (ready : Ready c tables ss ks p) (tests : TestWords (codeOf c) p ss ts) where
   abbrev lawful : Lawful (codeOf c)
   lawful = ready .filled .fielded .made .lawful
 
+  -- the syndromes in test word j
+  are-sums : (j : ℕ) → j < length ts → sumsAt ts j ≡ syndromesOf (codeOf c) (test p ss j)
+  are-sums j h = test-sums ss ks p (ready .deep .ready) (codeOf c) lawful (getD ts j 0) j (tests .are-tests j h)
+
   -- what test word j has been found to have
-  missed : (j : ℕ) → j < length sums → by j ≡ none → Option·map (candidate (codeOf c) p ss j) (tried (codeOf c) p ss j) ≡ none
+  missed : (j : ℕ) → j < length ts → locatedAt c tables ts j ≡ none → Option·map (candidate (codeOf c) p ss j) (tried (codeOf c) p ss j) ≡ none
   missed j h e =
-      try-missed (c .m) (c .t) (c .n) lawful ts (ready .filled .tables) ss ks p (ready .deep) (ready .long) j (getD sums j 0) (tests .are-sums j h) e
+      try-missed (c .m) (c .t) (c .n) lawful tables (ready .filled .tables) ss ks p (ready .deep) (ready .long) j (sumsAt ts j) (are-sums j h) e
 
   -- the syndromes are elements
-  pub are-syndromes : AreSyndromes c sums
+  pub are-syndromes : AreSyndromes c ts
   are-syndromes j h =
-      try-parts (c .m) (c .t) (c .n) lawful ts (ready .filled .tables) ss ks p (ready .deep) (ready .long) j (getD sums j 0) (tests .are-sums j h)
+      try-parts (c .m) (c .t) (c .n) lawful tables (ready .filled .tables) ss ks p (ready .deep) (ready .long) j (sumsAt ts j) (are-sums j h)
 
   module _ (o : Outcome) (unsure : o .sure ≡ false) (t : Tried (codeOf c) p ss o) (tries : ℕ) (f : Flips)
-      (next : Next (λ (j : ℕ). locateIn (c .m) (c .t) (c .n) ts (getD sums j 0)) (o .tries) (length sums) tries (f .found) (f .count) (f .at)) where
+      (next : Next (locatedAt c tables ts) (o .tries) (length ts) tries (f .found) (f .count) (f .at)) where
     -- nothing is located
-    pub turn-missed : f .found ≡ false → Tried (codeOf c) p ss (record { sure = o .sure; tries = tries; pick = o .pick }) × (tries ≡ length sums)
+    pub turn-missed : f .found ≡ false → Tried (codeOf c) p ss (record { sure = o .sure; tries = tries; pick = o .pick }) × (tries ≡ length ts)
     turn-missed z =
         let (all, none-there) = next .ended z in (
           tried-missed (codeOf c) p ss o unsure t tries (next .least) (omega (arith, tests .most))
@@ -83,18 +74,18 @@ module _ (c : refusal.Code) (ts ss ks : List ℕ) (p : ℕ) (sums weights : List
       abbrev j : ℕ
       j = tries - 1
 
-      j-lt : tries - 1 < length sums
+      j-lt : tries - 1 < length ts
       j-lt = omega (arith, next .there found .0, next .most)
 
       -- the test word that is located has this weight, ..
-      pub turn-weight : getD weights (tries - 1) 0 ≡ packedWeight (reliabilities ss) (test p ss (tries - 1)) (hardBits ss)
-      turn-weight = tests .are-weights (tries - 1) j-lt
+      pub turn-weight : getD ts (tries - 1) 0 / 4294967296 ≡ packedWeight (reliabilities ss) (test p ss (tries - 1)) (hardBits ss)
+      turn-weight = test-weight ss ks p (ready .deep .ready) (codeOf c) lawful (getD ts j 0) j (tests .are-tests j j-lt)
 
       -- .. and the positions are distinct
       pub turn-distinct : Distinct (length ss) (flipsOf f)
       turn-distinct =
           subst (λ (n : ℕ). Distinct n (flipsOf f)) (sym (ready .long))
-          (try-distinct (c .m) (c .t) (c .n) lawful ts (ready .filled .tables) ss ks p (ready .deep) (ready .long) j (getD sums j 0) (tests .are-sums j j-lt)
+          (try-distinct (c .m) (c .t) (c .n) lawful tables (ready .filled .tables) ss ks p (ready .deep) (ready .long) j (sumsAt ts j) (are-sums j j-lt)
           (f .found) (f .count) (f .at) (next .there found .2) found)
 
       -- its candidate is judged
@@ -110,7 +101,7 @@ module _ (c : refusal.Code) (ts ss ks : List ℕ) (p : ℕ) (sums weights : List
 
         placed : Placed (c .n) (f .count) (f .at)
         placed =
-            try-placed (c .m) (c .t) (c .n) lawful ts (ready .filled .tables) ss ks p (ready .deep) (ready .long) j (getD sums j 0) (tests .are-sums j j-lt)
+            try-placed (c .m) (c .t) (c .n) lawful tables (ready .filled .tables) ss ks p (ready .deep) (ready .long) j (sumsAt ts j) (are-sums j j-lt)
             (f .found) (f .count) (f .at) (next .there found .2) found few three
 
         sound : Sound (c .n) (pickBy A counted w f)
@@ -124,8 +115,8 @@ module _ (c : refusal.Code) (ts ss ks : List ℕ) (p : ℕ) (sums weights : List
         stands : pickOf p ss (pickBy A counted w f) ≡ Option·map (candidate (codeOf c) p ss j) (tried (codeOf c) p ss j)
         stands =
             pick-some p ss (pickBy A counted w f) found
-            ∙ sym (try-some (c .m) (c .t) (c .n) lawful ts (ready .filled .tables) ss ks p (ready .deep) (ready .long) j (getD sums j 0)
-            (tests .are-sums j j-lt) (f .found) (f .count) (f .at) (next .there found .2) found (w .q) (w .sum) A weighs (λ i. A))
+            ∙ sym (try-some (c .m) (c .t) (c .n) lawful tables (ready .filled .tables) ss ks p (ready .deep) (ready .long) j (sumsAt ts j)
+            (are-sums j j-lt) (f .found) (f .count) (f .at) (next .there found .2) found (w .q) (w .sum) A weighs (λ i. A))
 
         pub turn-judged : Tried (codeOf c) p ss (judgedBy (weighed (take (designDistance (codeOf c) - w .q) ks))
             (record { sure = o .sure; tries = tries; pick = o .pick }) w f)

@@ -1,5 +1,5 @@
 -- The positions that are located, as a record. Cited by the contracts of private functions alone. Assumes nothing.
-use Prim.Native.Nat.{ℕ, _/_, _^_, _≤_, _<_}
+use Prim.Native.Nat.{ℕ, _/_, _%_, _^_, _≤_, _<_}
 use mathlib.Core.Path.{_≡_}
 use mathlib.Core.Bool.{true}
 use mathlib.Core.List.{List, map}
@@ -8,6 +8,7 @@ use lib.ListN.{length, getD, take}
 use Rattle.bch.specs.Words.{Bits}
 use Rattle.bch.proofs.logarithms.LogAnswers.{syndromesOf}
 use Rattle.bch.proofs.logarithms.LogBounds.{Syndromes}
+use Rattle.bch.proofs.logarithms.LogLocator.{locateIn}
 use Rattle.bch.proofs.logarithms.Repairs.{Repairs}
 use Rattle.bch.proofs.tables.Placing.{Placed, positions}
 use Rattle.refusal.specs.Named.{codeOf}
@@ -26,9 +27,17 @@ flipsOf f = take (f .count) (f .at)
 abbrev pub Located : Flips → Option (List ℕ) → Type 0
 Located f o = (positions (f .found) (f .count) (f .at) ≡ o) × (length (f .at) ≡ 3) × (f .count ≤ 3)
 
--- each number is the first t syndromes of a word
+-- the syndromes that number j holds, below 2^32, ..
+abbrev pub sumsAt : List ℕ → ℕ → ℕ
+sumsAt tests j = getD tests j 0 % 4294967296
+
+-- .. are the first t of a word for each of them, ..
 abbrev pub AreSyndromes : refusal.Code → List ℕ → Type 0
-AreSyndromes c sums = (j : ℕ) → j < length sums → Syndromes (c .m) (c .t) (getD sums j 0)
+AreSyndromes c tests = (j : ℕ) → j < length tests → Syndromes (c .m) (c .t) (sumsAt tests j)
+
+-- .. and this is located for them
+abbrev pub locatedAt : refusal.Code → List ℕ → List ℕ → ℕ → Option (List ℕ)
+locatedAt c tables tests j = locateIn (c .m) (c .t) (c .n) tables (sumsAt tests j)
 
 -- they are where the hard stage flips, for every word of these syndromes
 abbrev pub Repairing : refusal.Code → ℕ → Flips → Type 0

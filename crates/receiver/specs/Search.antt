@@ -10,13 +10,11 @@ use lib.IntN.{subℕ}
 use lib.ListN.{length, drop}
 use Rattle.bch.specs.Words.{flippedAt}
 use Rattle.bch.specs.Code.{Code, designDistance}
-use Rattle.bch.proofs.logarithms.LogAnswers.{syndromesOf}
 use Rattle.bch.proofs.tables.Placing.{Placed}
-use Rattle.chase.specs.Soft.{Answer, Candidate, answer, lostAnswer, lost, fair, sure, hardBits, reliabilities, searchFrom, softStage}
+use Rattle.chase.specs.Soft.{Answer, Candidate, answer, lostAnswer, lost, fair, sure, searchFrom, softStage}
 use Rattle.chase.specs.Word.{test}
 use Rattle.chase.proofs.test_words.Doublings.{Holds}
-use Rattle.chase.proofs.weighing.Weights.{packedWeight}
-use Rattle.chase.proofs.search.Ready.{Deep}
+use Rattle.chase.proofs.search.Ready.{Deep, packedTest}
 use Rattle.take_format.specs.Batch.{markByte}
 use Rattle.refusal.specs.Named.{codeOf}
 use Rattle.refusal.specs.declared.Code as refusal
@@ -86,12 +84,10 @@ pub record Ready (c : refusal.Code) (ts ss ks : List ℕ) (p : ℕ) : Type 0 whe
   pub long : length ss ≡ c .n
   pub deep : Deep (designDistance (codeOf c)) ss ks p
 
--- the syndromes and the weights of the first test words
-pub record TestWords (c : Code) (p : ℕ) (ss sums weights : List ℕ) : Type 0 where
-  pub most : length sums ≤ 2 ^ p
-  pub as-many : length weights ≡ length sums
-  pub are-sums : Holds (λ (j : ℕ). syndromesOf c (test p ss j)) (length sums) sums
-  pub are-weights : Holds (λ (j : ℕ). packedWeight (reliabilities ss) (test p ss j) (hardBits ss)) (length sums) weights
+-- the first test words
+pub record TestWords (c : Code) (p : ℕ) (ss ts : List ℕ) : Type 0 where
+  pub most : length ts ≤ 2 ^ p
+  pub are-tests : Holds (packedTest c p ss) (length ts) ts
 
 -- what is written for an answer, of its codeword from a position on, over what was there
 unfoldable pub writtenFrom : ℕ → Answer → List ℕ → List ℕ

@@ -59,8 +59,8 @@ fn located(c: Code, tables: &mut [u32], s: u32) -> Flips
         return locate::few(c, tables, s);
     }
     tables::fill_roots(c, tables);
-    let sums = [s];
-    let e = locate::next(c, tables, &sums, 0);
+    let tests = [s as u64];
+    let e = locate::next(c, tables, &tests, 0);
     e.flips
 }
 

@@ -15,7 +15,7 @@ ghost use mathlib.Core.Path.{_≡_};
 ghost use mathlib.Core.Logic.{_≢_};
 ghost use mathlib.Core.List.{[], _∷_};
 ghost use mathlib.Core.Option.{none, some};
-ghost use Prim.Native.Nat.{ℕ, _+_, _-_, _*_, _/_, _%_, _<_, _≤_, _^_};
+ghost use Prim.Native.Nat.{_+_, _-_, _*_, _/_, _%_, _<_, _≤_, _^_};
 ghost use lib.Bits.{bitXor};
 ghost use lib.ListN.{length, getD};
 ghost use Rattle.bch.proofs.decoding.Elements.{ifZero};
@@ -24,9 +24,10 @@ ghost use Rattle.bch.proofs.tables.CodeTables.{logIn, powersIn};
 ghost use Rattle.bch.proofs.logarithms.LogLocator.{pairIn, trioIn, cubesIn, kappaIn, locateIn};
 ghost use Rattle.bch.proofs.logarithms.LogBounds.{Syndromes};
 ghost use Rattle.bch.proofs.logarithms.Seeking.{Next as Seeking·Next};
-ghost use Rattle.receiver.specs.Located.{Located, AreSyndromes};
+ghost use Rattle.receiver.specs.Located.{Located, AreSyndromes, locatedAt};
 ghost use Rattle.receiver.specs.Tables.{Fielded, Filled};
 use crate::tables;
+use crate::test_words;
 use refusal::Code;
 
 // The positions to flip, where they are found: a count, and three places of which the unused are 0.
@@ -261,16 +262,16 @@ pub struct Spot {
     pub flips: Flips,
 }
 
-// Tries one word after the other, by its syndromes, until positions are located; each try is counted as it is made. (Both stages go
-// through here: a function that is called from one place alone is compiled into it, and a try then costs no call of `locate`.)
-pub fn next(c: Code, tables: &[u32], sums: &[u32], made: usize) -> Spot
-    requires { ⌜ Filled c (now tables) × AreSyndromes c (now sums) × (made ≤ length (now sums)) ⌝ }
-    ensures { λ r. ⌜ Seeking·Next (λ (j : ℕ). locateIn (c .m) (c .t) (c .n) (now (tables .entry)) (getD (now (sums .entry)) j 0)) made (length (now (sums .entry))) (r .tries) (r .flips .found) (r .flips .count) (r .flips .at) ⌝ }
+// Tries one word after the other, by the syndromes in its number, until positions are located; each try is counted as it is made. (Both
+// stages go through here: a function that is called from one place alone is compiled into it, and a try then costs no call of `locate`.)
+pub fn next(c: Code, tables: &[u32], tests: &[u64], made: usize) -> Spot
+    requires { ⌜ Filled c (now tables) × AreSyndromes c (now tests) × (made ≤ length (now tests)) ⌝ }
+    ensures { λ r. ⌜ Seeking·Next (locatedAt c (now (tables .entry)) (now (tests .entry))) made (length (now (tests .entry))) (r .tries) (r .flips .found) (r .flips .count) (r .flips .at) ⌝ }
     ensures { λ r. ⌜ (length (r .flips .at) ≡ 3) × (r .flips .count ≤ 3) ⌝ }
 {
     let mut tries = made;
-    while tries < sums.len() {
-        let f = locate(c, tables, sums[tries]);
+    while tries < tests.len() {
+        let f = locate(c, tables, test_words::syndromes_in(tests[tries]));
         tries += 1;
         let found = f.found;
         if found {

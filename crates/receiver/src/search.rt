@@ -96,32 +96,31 @@ fn judged(d: usize, keys: Keys, o: Outcome, w: Weight, f: Flips) -> Outcome
     o
 }
 
-// The tries of test words whose syndromes and weights are ready, unless one of them ends the search.
+// The tries of test words that are ready, unless one of them ends the search.
 fn try_on(
     c: Code,
     tables: &[u32],
     s: &[u8],
     keys: Keys,
     p: usize,
-    sums: &[u32],
-    weights: &[u32],
+    tests: &[u64],
     start: Outcome,
 ) -> Outcome
-    requires { ⌜ Ready c (now tables) (now s) (keys .at) p × TestWords (codeOf c) p (now s) (now sums) (now weights) ⌝ }
-    requires { ⌜ Tried (codeOf c) p (now s) start × (start .sure ≡ false) × (start .tries ≤ length (now sums)) ⌝ }
-    ensures { λ r. ⌜ Tried (codeOf c) p (now (s .entry)) r × (r .sure ≡ false → r .tries ≡ length (now (sums .entry))) ⌝ }
+    requires { ⌜ Ready c (now tables) (now s) (keys .at) p × TestWords (codeOf c) p (now s) (now tests) ⌝ }
+    requires { ⌜ Tried (codeOf c) p (now s) start × (start .sure ≡ false) × (start .tries ≤ length (now tests)) ⌝ }
+    ensures { λ r. ⌜ Tried (codeOf c) p (now (s .entry)) r × (r .sure ≡ false → r .tries ≡ length (now (tests .entry))) ⌝ }
 {
     let d = c.distance();
     let mut o = start;
-    while o.tries < sums.len() {
-        let e = locate::next(c, tables, sums, o.tries);
+    while o.tries < tests.len() {
+        let e = locate::next(c, tables, tests, o.tries);
         o.tries = e.tries;
         let found = e.flips.found;
         if !found {
             return o;
         }
         let j = e.tries - 1;
-        let w = weighing::weigh(s, keys, p, j, weights[j], e.flips);
+        let w = weighing::weigh(s, keys, p, j, test_words::weight_in(tests[j]), e.flips);
         o = judged(d, keys, o, w, e.flips);
         if o.sure {
             return o;
@@ -148,7 +147,7 @@ fn search_on(
     s: &[u8],
     keys: Keys,
     p: usize,
-    base: u32,
+    base: u64,
     start: Outcome,
 ) -> Outcome
     requires { ⌜ Ready c (now tables) (now s) (keys .at) p × (base ≡ syndromesOf (codeOf c) (hardBits (now s))) ⌝ }
@@ -156,18 +155,17 @@ fn search_on(
     ensures { λ r. ⌜ Tried (codeOf c) p (now (s .entry)) r × (r .sure ≡ false → r .tries ≡ 2 ^ p) ⌝ }
 {
     let at = keys.at;
-    let mut sums = [0u32; 64];
-    let mut weights = [0u32; 64];
-    sums[0] = base;
+    let mut tests = [0u64; 64];
+    tests[0] = base;
     let mut o = start;
     let mut to = 1;
     let mut b = 0;
     while b < p {
-        test_words::double(c, tables, at[b], to, &mut sums, &mut weights);
+        test_words::double(c, tables, at[b], to, &mut tests);
         to = 2 * to;
         b += 1;
         if due(b, p) {
-            o = try_on(c, tables, s, keys, p, &sums[..to], &weights[..to], o);
+            o = try_on(c, tables, s, keys, p, &tests[..to], o);
             if o.sure {
                 return o;
             }
@@ -181,10 +179,9 @@ pub fn search(c: Code, tables: &[u32], s: &[u8], keys: Keys, p: usize) -> Outcom
     requires { ⌜ Ready c (now tables) (now s) (keys .at) p ⌝ }
     ensures { λ r. ⌜ (outcomeOf p (now (s .entry)) r ≡ softStage (codeOf c) p (now (s .entry))) × Sound (c .n) (r .pick) ⌝ }
 {
-    let base = hard_stage::syndromes(c, tables, s, 4);
-    let sums = [base];
-    let weights = [0u32];
-    let o = try_on(c, tables, s, keys, p, &sums, &weights, untried());
+    let base = hard_stage::syndromes(c, tables, s, 4) as u64;
+    let tests = [base];
+    let o = try_on(c, tables, s, keys, p, &tests, untried());
     if o.sure {
         return o;
     }

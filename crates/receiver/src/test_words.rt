@@ -1,51 +1,48 @@
-// The syndromes and the weights of test words, each from the one without its highest bit. No test word is written out.
+// Test words, each from the one without its highest bit. None is written out: a test word is one number, 2^32 times its weight plus its
+// syndromes. The weight is 65536 times its flips plus its distance from the hard bits.
 ghost use mathlib.Core.Path.{_≡_};
-ghost use Prim.Native.Nat.{ℕ, _+_, _-_, _/_, _%_, _^_, _<_, _≤_};
-ghost use lib.Bits.{bitXor};
+ghost use Prim.Native.Nat.{_+_, _*_, _/_, _%_, _<_, _≤_};
 ghost use lib.ListN.{length};
-ghost use Rattle.galois.proofs.FieldTables.{powersOf};
-ghost use Rattle.bch.proofs.tables.Placing.{lowerPart};
+ghost use Rattle.chase.proofs.search.Ready.{flippedMore};
 ghost use Rattle.chase.proofs.test_words.Doublings.{Doubled, Small};
+ghost use Rattle.refusal.specs.Named.{codeOf};
 ghost use Rattle.receiver.specs.Tables.{Fielded};
 use crate::ranking;
 use crate::tables;
 use refusal::Code;
 
-// Behind the first `size` entries, the field sum of each of them and v.
-fn double_xor(out: &mut [u32], size: usize, v: u32)
-    requires { ⌜ size + size ≤ length (now out) ⌝ }
-    ensures { λ _. ⌜ Doubled (λ (x : ℕ). bitXor x v) size (now (out .entry)) (now (out .exit)) ⌝ }
+// The syndromes in a test word.
+pub fn syndromes_in(test: u64) -> u32
+    ensures { λ r. ⌜ r ≡ test % 4294967296 ⌝ }
 {
-    let mut i = 0;
-    while i < size {
-        out[size + i] = out[i] ^ v;
-        i += 1;
-    }
+    (test % 4294967296) as u32
 }
 
-// Behind the first `size` entries, the sum of each of them and v.
-fn double_add(out: &mut [u32], size: usize, v: u32)
-    requires { ⌜ size + size ≤ length (now out) ⌝ }
-    requires { ⌜ v < 131072 ⌝ }
-    requires { ⌜ Small 134217728 size (now out) ⌝ }
-    ensures { λ _. ⌜ Doubled (λ (x : ℕ). x + v) size (now (out .entry)) (now (out .exit)) ⌝ }
+// The weight in a test word.
+pub fn weight_in(test: u64) -> u32
+    ensures { λ r. ⌜ r ≡ test / 4294967296 ⌝ }
 {
-    let mut i = 0;
-    while i < size {
-        out[size + i] = out[i] + v;
-        i += 1;
-    }
+    (test / 4294967296) as u32
 }
 
-// As many test words again, which flip the position of one key more: the syndromes of each, and its flips and distance from the hard
-// bits, 65536 times the one plus the other.
-pub fn double(c: Code, tables: &[u32], key: u16, size: usize, sums: &mut [u32], weights: &mut [u32])
+// What the flip of a key's position adds to a test word: its weight.
+fn flip_of(key: u16) -> u64
+    ensures { λ r. ⌜ r ≡ (65536 + key / 1024) * 4294967296 ⌝ }
+{
+    (65536 + (key / 1024) as u64) * 4294967296
+}
+
+// As many test words again, which flip the position of one key more.
+pub fn double(c: Code, tables: &[u32], key: u16, size: usize, tests: &mut [u64])
     requires { ⌜ Fielded c (now tables) × (key % 1024 < c .n) ⌝ }
-    requires { ⌜ (size + size ≤ length (now sums)) × (size + size ≤ length (now weights)) × Small 134217728 size (now weights) ⌝ }
-    ensures { λ _. ⌜ Doubled (λ (x : ℕ). bitXor x (lowerPart (c .t) (powersOf (c .m) (key % 1024)))) size (now (sums .entry)) (now (sums .exit)) ⌝ }
-    ensures { λ _. ⌜ Doubled (λ (x : ℕ). x + (65536 + key / 1024)) size (now (weights .entry)) (now (weights .exit)) ⌝ }
+    requires { ⌜ (2 * size ≤ length (now tests)) × Small 576460752303423488 size (now tests) ⌝ }
+    ensures { λ _. ⌜ Doubled (flippedMore (codeOf c) key) size (now (tests .entry)) (now (tests .exit)) ⌝ }
 {
-    let v = tables::powers_of(c, tables, ranking::place_of(key));
-    double_xor(sums, size, v);
-    double_add(weights, size, 65536 + ranking::held(key));
+    let v = tables::powers_of(c, tables, ranking::place_of(key)) as u64;
+    let w = flip_of(key);
+    let mut i = 0;
+    while i < size {
+        tests[size + i] = (tests[i] ^ v) + w;
+        i += 1;
+    }
 }

@@ -6,18 +6,21 @@ use native.Mathlib.Numerals.{add-one}
 use mathlib.Core.Path.{_≡_, refl, ap, sym, _∙_, subst}
 use mathlib.Core.Bool.{true, false}
 use mathlib.Core.List.{List, map}
-use lib.Bits.{bitXor}
+use lib.Bits.{bitXor, xor-block, xor-zero-r}
 use lib.ListN.{length, getD, take, length-map, List·getD-map}
 use lib.Seq.{getD-take, length-take-le}
-use Rattle.galois.proofs.FieldTables.{powersOf}
+use Rattle.galois.specs.Field.{alpha}
+use Rattle.galois.proofs.FieldLaws.{alpha-lt}
+use Rattle.galois.proofs.FieldTables.{powersOf, size-most}
 use Rattle.bch.specs.Words.{Bits, flippedAt, isIn, Distinct}
 use Rattle.bch.specs.Code.{Code}
-use Rattle.bch.proofs.codes.Settings.{Lawful}
+use Rattle.bch.proofs.codes.Settings.{Lawful, primitive-of}
 use Rattle.bch.proofs.codes.Counting.{flips-same, flips-most}
 use Rattle.bch.proofs.codes.Flipped.{distinct-at}
 use Rattle.bch.proofs.decoding.Located.{length-flipped}
 use Rattle.bch.proofs.tables.Placing.{lowerPart}
-use Rattle.bch.proofs.logarithms.LogAnswers.{syndromesOf}
+use Rattle.bch.proofs.logarithms.LogBounds.{syndromes-of}
+use Rattle.bch.proofs.logarithms.LogAnswers.{syndromesOf, syndromes-in}
 use Rattle.chase.specs.Soft.{hardBits, reliabilities, weak, sum, distance}
 use Rattle.chase.specs.Word.{Symbols, test, weakest}
 use Rattle.chase.proofs.ranking.Ranking as Ranking
@@ -45,6 +48,27 @@ pub record Deep (d : ℕ) (ss ks : List ℕ) (p : ℕ) : Type 0 where
   pub ready : Ready ss ks p
   pub kept : d ≤ ready .size
   pub there : d ≤ length ss
+
+-- a test word in one number: 2^32 times its weight, plus its syndromes
+abbrev pub packedTest : Code → ℕ → List ℕ → ℕ → ℕ
+packedTest c p ss j = packedWeight (reliabilities ss) (test p ss j) (hardBits ss) * 4294967296 + syndromesOf c (test p ss j)
+
+-- .. and where it flips the position of one key more
+abbrev pub flippedMore : Code → ℕ → ℕ → ℕ
+flippedMore c key x = bitXor x (lowerPart (c .t) (powersOf (c .m) (key % 1024))) + (65536 + key / 1024) * 4294967296
+
+-- a field sum with a number below 2^32 leaves what stands above
+xor-low : (h l v : ℕ) → l < 4294967296 → v < 4294967296 → bitXor (h * 4294967296 + l) v ≡ h * 4294967296 + bitXor l v
+xor-low h l v hl hv =
+    let e : v ≡ 0 * 4294967296 + v = omega arith in
+    ap (bitXor (h * 4294967296 + l)) e ∙ xor-block 32 h 0 l v hl hv ∙ ap (λ (x : ℕ). x * 4294967296 + bitXor l v) (xor-zero-r h)
+
+-- the powers of a position are below it
+powers-small : (c : Code) → Lawful c → (x : ℕ) → lowerPart (c .t) (powersOf (c .m) x) < 4294967296
+powers-small c lawful x =
+    let lt : (e : ℕ) → alpha (c .m) e < 2 ^ c .m = alpha-lt (c .m) (primitive-of c lawful) in
+    let s = syndromes-of (c .m) (c .t) (lawful .m-most) (lawful .t-least) (lawful .t-most) _ _ _ _ (lt (1 * x)) (lt (3 * x)) (lt (5 * x)) refl in
+    omega (arith, s .fifth, size-most (c .m) (lawful .m-most))
 
 -- the positions of the first p keys
 abbrev pub placesOf : List ℕ → ℕ → List ℕ
@@ -87,57 +111,72 @@ module _ (ss ks : List ℕ) (p : ℕ) (ready : Ready ss ks p) where
   strong-unflipped h j x l =
       chosen-absent x j (weak p (reliabilities ss)) (not-weak (ready .size) ss ks (ready .keys) p (ready .weak-kept) (ready .weak-there) h x l)
 
-  -- ---- the syndromes and the weights of the test words
-
-  abbrev pub sumsOf : Code → ℕ → ℕ
-  sumsOf c j = syndromesOf c (test p ss j)
+  -- ---- the test words in one number each
 
   abbrev pub weightOf : ℕ → ℕ
   weightOf j = packedWeight (reliabilities ss) (test p ss j) (hardBits ss)
 
-  -- test word 0 has the syndromes of the hard bits, ..
-  pub sums-first : (c : Code) (base : ℕ) (out : List ℕ) → base ≡ syndromesOf c (hardBits ss) → getD out 0 0 ≡ base → Holds (sumsOf c) 1 out
-  sums-first c base out e h =
-      holds-first (sumsOf c) out (h ∙ e ∙ ap (syndromesOf c) (sym (test-none (weak p (reliabilities ss)) (hardBits ss))))
-
-  -- .. and those with a higher bit are had by doubling
-  pub sums-next : (c : Code) → Lawful c → (b size v : ℕ) (old new : List ℕ) → b < p → size ≡ 2 ^ b
-      → v ≡ lowerPart (c .t) (powersOf (c .m) (getD ks b 0 % 1024)) → Doubled (λ (x : ℕ). bitXor x v) size old new
-      → Holds (sumsOf c) (2 ^ b) old → Holds (sumsOf c) (2 ^ (b + 1)) new
-  sums-next c lawful b size v old new h q e d t =
-      doubled-holds (sumsOf c) (λ (x : ℕ). bitXor x v) b old new (rw q at d)
-      (λ k l. sums-high c lawful (length ss) b k (weak p (reliabilities ss)) (hardBits ss) (bits-hard ss (ready .symbols)) (length-hard ss) weak-distinct
-      (omega (arith, long-weak)) l
-      ∙ ap (bitXor (sumsOf c k)) (ap (λ (x : ℕ). lowerPart (c .t) (powersOf (c .m) x)) (at-weak b h) ∙ sym e)) t
-
-  -- test word 0 weighs nothing, ..
-  pub weights-first : (out : List ℕ) → getD out 0 0 ≡ 0 → Holds weightOf 1 out
-  weights-first out h =
-      holds-first weightOf out
-      (rw (h, test-none (weak p (reliabilities ss)) (hardBits ss), flips-same (hardBits ss), distance-same (reliabilities ss) (hardBits ss)) refl)
-
-  -- .. and a higher bit adds its flip
-  pub weights-next : (b size z : ℕ) (old new : List ℕ) → b < p → size ≡ 2 ^ b → z ≡ getD ks b 0 / 1024
-      → Doubled (λ (x : ℕ). x + (65536 + z)) size old new → Holds weightOf (2 ^ b) old → Holds weightOf (2 ^ (b + 1)) new
-  weights-next b size z old new h q e d t =
-      doubled-holds weightOf (λ (x : ℕ). x + (65536 + z)) b old new (rw q at d)
-      (λ k l. weight-high (length ss) (reliabilities ss) (hardBits ss) (length-hard ss) (length-reliabilities ss) (bits-hard ss (ready .symbols))
-      (weak p (reliabilities ss)) weak-distinct k b (omega (arith, long-weak)) l
-      ∙ ap (λ (x : ℕ). weightOf k + (65536 + x)) (ap (λ (x : ℕ). getD (reliabilities ss) x 0) (at-weak b h) ∙ sym (e ∙ key-held b h))) t
-
   -- each weight is small
-  pub weights-small : (size : ℕ) (out : List ℕ) → Holds weightOf size out → Small 134217728 size out
-  weights-small size out t k l =
+  weight-small : (j : ℕ) → weightOf j < 134217728
+  weight-small j =
       omega (
         arith,
-        t k l,
-        flips-most (test p ss k) (hardBits ss),
-        length-test k (weak p (reliabilities ss)) (hardBits ss),
+        flips-most (test p ss j) (hardBits ss),
+        length-test j (weak p (reliabilities ss)) (hardBits ss),
         length-hard ss,
-        distance-most (reliabilities ss) (test p ss k) (hardBits ss) (λ i w. reliability-lt ss i),
+        distance-most (reliabilities ss) (test p ss j) (hardBits ss) (λ i w. reliability-lt ss i),
         length-reliabilities ss,
         ready .most,
       )
+
+  module _ (c : Code) (lawful : Lawful c) where
+    abbrev sumsOf : ℕ → ℕ
+    sumsOf j = syndromesOf c (test p ss j)
+
+    -- .. and so are the syndromes, ..
+    sums-small : (j : ℕ) → sumsOf j < 4294967296
+    sums-small j =
+        let s = syndromes-in c lawful (test p ss j) (bits-test j (weak p (reliabilities ss)) (hardBits ss) (bits-hard ss (ready .symbols))) (sumsOf j) refl in
+        omega (arith, s .fifth, size-most (c .m) (lawful .m-most))
+
+    -- .. so that both are read off again
+    pub test-sums : (x j : ℕ) → x ≡ packedTest c p ss j → x % 4294967296 ≡ syndromesOf c (test p ss j)
+    test-sums x j e = omega (arith, sums-small j)
+
+    pub test-weight : (x j : ℕ) → x ≡ packedTest c p ss j → x / 4294967296 ≡ weightOf j
+    test-weight x j e = omega (arith, sums-small j)
+
+    -- test word 0 has the syndromes of the hard bits and weighs nothing, ..
+    pub tests-first : (base : ℕ) (out : List ℕ) → base ≡ syndromesOf c (hardBits ss) → getD out 0 0 ≡ base → Holds (packedTest c p ss) 1 out
+    tests-first base out e h =
+        let none = test-none (weak p (reliabilities ss)) (hardBits ss) in
+        let weight : weightOf 0 ≡ 0 = rw (none, flips-same (hardBits ss), distance-same (reliabilities ss) (hardBits ss)) refl in
+        let sums : base ≡ sumsOf 0 = e ∙ ap (syndromesOf c) (sym none) in
+        holds-first (packedTest c p ss) out (h ∙ omega arith)
+
+    -- .. and those with a higher bit are had by doubling
+    test-high : (b k : ℕ) → b < p → k < 2 ^ b → packedTest c p ss (k + 2 ^ b) ≡ flippedMore c (getD ks b 0) (packedTest c p ss k)
+    test-high b k h l =
+        let v = lowerPart (c .t) (powersOf (c .m) (getD ks b 0 % 1024)) in
+        let sums : sumsOf (k + 2 ^ b) ≡ bitXor (sumsOf k) v
+        = sums-high c lawful (length ss) b k (weak p (reliabilities ss)) (hardBits ss) (bits-hard ss (ready .symbols)) (length-hard ss) weak-distinct
+        (omega (arith, long-weak)) l
+        ∙ ap (λ (x : ℕ). bitXor (sumsOf k) (lowerPart (c .t) (powersOf (c .m) x))) (at-weak b h) in
+        let weight : weightOf (k + 2 ^ b) ≡ weightOf k + (65536 + getD ks b 0 / 1024)
+        = weight-high (length ss) (reliabilities ss) (hardBits ss) (length-hard ss) (length-reliabilities ss) (bits-hard ss (ready .symbols))
+        (weak p (reliabilities ss)) weak-distinct k b (omega (arith, long-weak)) l
+        ∙ ap (λ (x : ℕ). weightOf k + (65536 + x)) (ap (λ (x : ℕ). getD (reliabilities ss) x 0) (at-weak b h) ∙ sym (key-held b h)) in
+        let low = xor-low (weightOf k) (sumsOf k) v (sums-small k) (powers-small c lawful (getD ks b 0 % 1024)) in
+        omega (arith, sums, weight, low)
+
+    pub tests-next : (b size : ℕ) (old new : List ℕ) → b < p → size ≡ 2 ^ b → Doubled (flippedMore c (getD ks b 0)) size old new
+        → Holds (packedTest c p ss) (2 ^ b) old → Holds (packedTest c p ss) (2 ^ (b + 1)) new
+    tests-next b size old new h q d t =
+        doubled-holds (packedTest c p ss) (flippedMore c (getD ks b 0)) b old new (rw q at d) (λ k l. test-high b k h l) t
+
+    -- each is small
+    pub tests-small : (b size : ℕ) (out : List ℕ) → size ≡ 2 ^ b → Holds (packedTest c p ss) (2 ^ b) out → Small 576460752303423488 size out
+    tests-small b size out q t k l = omega (arith, t k (omega arith), sums-small k, weight-small k)
 
   -- ---- a candidate of test word j
 

@@ -31,13 +31,9 @@ size-most b h = let l : b ≤ 5 = omega arith in
     let k : 2 ^ b ≤ 2 ^ 5 = pow-mono l in
     omega arith
 
--- the first entry is right, ..
+-- the first entry is right
 pub holds-first : (f : ℕ → ℕ) (xs : List ℕ) → getD xs 0 0 ≡ f 0 → Holds f 1 xs
 holds-first f xs e k l = let z : k ≡ 0 = omega arith in rw z e
-
--- .. as where it is set
-pub holds-one : (f : ℕ → ℕ) (v : ℕ) (xs : List ℕ) → 0 < length xs → v ≡ f 0 → Holds f (2 ^ 0) (set xs 0 v)
-holds-one f v xs h e = holds-first f (set xs 0 v) (getD-set-same xs 0 v 0 h ∙ e)
 
 -- one entry more is set
 pub holds-more : (f : ℕ → ℕ) (xs : List ℕ) (i v : ℕ) → i < length xs → v ≡ f i → Holds f i xs → Holds f (i + 1) (set xs i v)

@@ -1,12 +1,13 @@
 -- At most one error needs no roots. Assumes nothing.
-use Prim.Native.Nat.{ℕ, _<_}
+use Prim.Native.Nat.{ℕ, _%_, _<_}
 use native.Mathlib.Omega.{arith}
-use mathlib.Core.Path.{_≡_, sym, _∙_, subst}
+use mathlib.Core.Path.{_≡_, ap, sym, _∙_, subst}
 use mathlib.Core.List.{[], _∷_}
 use lib.ListN.{getD}
 use Rattle.bch.proofs.logarithms.FewRepairs.{few-repairs, few-placed}
 use Rattle.bch.proofs.logarithms.LogAnswers.{repairs-in, found-placed}
 use Rattle.bch.proofs.logarithms.LogBounds.{Syndromes}
+use Rattle.bch.proofs.logarithms.LogLocator.{locateIn}
 use Rattle.bch.proofs.logarithms.Seeking.{next-one}
 use Rattle.refusal.specs.Named.{codeOf}
 use Rattle.receiver.proofs.hard_stage.located.Statement.{statement}
@@ -14,11 +15,15 @@ use Rattle.receiver.proofs.hard_stage.located.Tie as tie
 use borrow.Author.Needs.{needs}
 
 -- one number that is syndromes, as a list
+low : (s : ℕ) → s < 4294967296 → s ≡ s % 4294967296
+low s h = omega arith
+
 first : (j : ℕ) → j < 1 → 0 ≡ j
 first j h = omega arith
 
-one-syndromes : (m t s : ℕ) → Syndromes m t s → (j : ℕ) → j < 1 → Syndromes m t (getD (s ∷ []) j 0)
-one-syndromes m t s is j h = subst (λ (i : ℕ). Syndromes m t (getD (s ∷ []) i 0)) (first j h) is
+one-syndromes : (m t s : ℕ) → s < 4294967296 → Syndromes m t s → (j : ℕ) → j < 1 → Syndromes m t (getD (s ∷ []) j 0 % 4294967296)
+one-syndromes m t s l is j h =
+    subst (λ (i : ℕ). Syndromes m t (getD (s ∷ []) i 0 % 4294967296)) (first j h) (subst (Syndromes m t) (low s l) is)
 
 rest-of-requires : tie.Need-rest-of-requires
 rest-of-requires c κs = let s = c .before .before in (s .pre .0, s .pre .2)
@@ -51,7 +56,7 @@ slice-aggregate-next c = search needs
 next-requires : tie.Need-next-requires
 next-requires c κs =
     let s = c .before .before .before .before .before .before .before .before .before .before in
-    (c .before .before .before .before .fill-roots .ensures, one-syndromes _ _ _ (s .pre .2), omega arith)
+    (c .before .before .before .before .fill-roots .ensures, one-syndromes _ _ _ (omega arith) (s .pre .2), omega arith)
 
 same-length-2 : tie.Need-same-length-2
 same-length-2 c = search needs
@@ -64,7 +69,7 @@ returns-2 c =
     let t = c .before .before .before .before .before .before .fill-roots .ensures .tables in
     let f = c .before .next in
     let r = f .result .flips in
-    let e = next-one _ _ _ _ _ (f .ensures .0) in
+    let e = next-one _ _ _ _ _ (f .ensures .0) ∙ ap (locateIn (k .m) (k .t) (k .n) _) (sym (low (s .args .s) (omega arith))) in
     λ xs long bits is. (
       repairs-in k lawful _ t xs long bits _ is (r .found) (r .count) (r .at) e,
       λ z. found-placed k lawful _ t xs long bits _ is (r .found) (r .count) (r .at) e z (f .ensures .1 .1) (f .ensures .1 .0),

@@ -1,22 +1,18 @@
 -- Nothing is located for the words passed. Assumes nothing.
 use Prim.Native.Nat.{ℕ, _-_, _≤_}
 use native.Mathlib.Omega.{arith}
-use mathlib.Core.Path.{_≡_, refl}
+use mathlib.Core.Path.{_≡_, refl, ap, _∙_}
 use mathlib.Core.Bool.{Bool, true, false}
 use mathlib.Core.List.{List}
-use mathlib.Core.Option.{Option, none}
-use lib.ListN.{length, getD}
+use mathlib.Core.Option.{none}
+use lib.ListN.{length}
 use Rattle.bch.proofs.tables.Placing.{positions}
 use Rattle.bch.proofs.logarithms.LogLocator.{locateIn}
 use Rattle.bch.proofs.logarithms.Seeking.{Missed, missed-more, next-there, next-none}
-use Rattle.refusal.specs.declared.Code.{Code}
+use Rattle.receiver.specs.Located.{locatedAt}
 use borrow.Author.Needs.{needs}
 use Rattle.receiver.proofs.locate.next.Statement.{statement}
 use Rattle.receiver.proofs.locate.next.Tie as tie
-
--- what is located for word j
-abbrev by : Code → List ℕ → List ℕ → ℕ → Option (List ℕ)
-by c ts sums j = locateIn (c .m) (c .t) (c .n) ts (getD sums j 0)
 
 -- where nothing is located, nothing is found
 lost-found : (found : Bool) (count : ℕ) (ps : List ℕ) → positions found count ps ≡ none → found ≡ false
@@ -25,35 +21,39 @@ lost-found false count ps e = refl
 lost-found true count ps e = absurd (let z : _≡_ {A = ℕ} 0 1 = cc in omega arith)
 
 abbrev Inv-loop : tie.InvT-loop
-Inv-loop c tables sums made tries₀ tries = (made ≤ tries) × (tries ≤ length sums) × Missed (by c tables sums) made tries
+Inv-loop c tables tests made tries₀ tries = (made ≤ tries) × (tries ≤ length tests) × Missed (locatedAt c tables tests) made tries
 
 abbrev μ-loop : tie.MeasureT-loop
-μ-loop c tables sums made tries₀ tries = length sums - tries
+μ-loop c tables tests made tries₀ tries = length tests - tries
 
 loop-holds : tie.Need-loop-holds Inv-loop μ-loop
 loop-holds c = (omega arith, omega arith, λ j l u. absurd (omega arith))
 
-mul-locate : tie.Need-mul-locate Inv-loop μ-loop
-mul-locate c = search needs
+mul-syndromes-in : tie.Need-mul-syndromes-in Inv-loop μ-loop
+mul-syndromes-in c = search needs
 
-shared-slice-read-locate : tie.Need-shared-slice-read-locate Inv-loop μ-loop
-shared-slice-read-locate c = search needs
+shared-slice-read-syndromes-in : tie.Need-shared-slice-read-syndromes-in Inv-loop μ-loop
+shared-slice-read-syndromes-in c = search needs
+
+syndromes-in-requires : tie.Need-syndromes-in-requires Inv-loop μ-loop
+syndromes-in-requires c κs = search needs
 
 locate-requires : tie.Need-locate-requires Inv-loop μ-loop
 locate-requires c κs =
-    let s = c .before .before .before .before .before in
-    (s .pre .0, s .pre .1 (c .before .before .loop .tries) (omega arith))
+    let s = c .before .before .before .before .before .before in
+    (s .pre .0, rw (c .syndromes-in .ensures) (s .pre .1 (c .before .before .before .loop .tries) (omega arith)))
 
 add-tries : tie.Need-add-tries Inv-loop μ-loop
 add-tries c = search needs
 
 returns : tie.Need-returns Inv-loop μ-loop
 returns c =
-    let a = c .before .before .before .before .before .before .before .args in
-    let l = c .before .before .before .before .loop in
-    let f = c .before .locate in (
-      next-there (by (a .c) (a .tables .now) (a .sums .now)) (a .made) (length (a .sums .now)) (f .result .found) (f .result .count) (f .result .at)
-          (l .tries) (l .inv .0) (omega arith) (l .inv .2) (f .ensures .0) (c .if1 .taken),
+    let a = c .before .before .before .before .before .before .before .before .args in
+    let l = c .before .before .before .before .before .loop in
+    let f = c .before .locate in
+    let e = f .ensures .0 ∙ ap (locateIn (a .c .m) (a .c .t) (a .c .n) (a .tables .now)) (c .before .before .syndromes-in .ensures) in (
+      next-there (locatedAt (a .c) (a .tables .now) (a .tests .now)) (a .made) (length (a .tests .now)) (f .result .found) (f .result .count) (f .result .at)
+          (l .tries) (l .inv .0) (omega arith) (l .inv .2) e (c .if1 .taken),
       (f .ensures .1, f .ensures .2),
     )
 
@@ -62,13 +62,14 @@ loop-less c = search needs
 
 loop-again : tie.Need-loop-again Inv-loop μ-loop
 loop-again c =
-    let a = c .before .before .before .before .before .before .before .args in
-    let l = c .before .before .before .before .loop in
-    let f = c .before .locate in (
+    let a = c .before .before .before .before .before .before .before .before .args in
+    let l = c .before .before .before .before .before .loop in
+    let f = c .before .locate in
+    let e = f .ensures .0 ∙ ap (locateIn (a .c .m) (a .c .t) (a .c .n) (a .tables .now)) (c .before .before .syndromes-in .ensures) in (
       omega arith,
       omega arith,
-      missed-more (by (a .c) (a .tables .now) (a .sums .now)) (a .made) (length (a .sums .now)) (f .result .found) (f .result .count) (f .result .at)
-          (l .tries) (l .inv .2) (f .ensures .0) (c .if1 .left),
+      missed-more (locatedAt (a .c) (a .tables .now) (a .tests .now)) (a .made) (length (a .tests .now)) (f .result .found) (f .result .count) (f .result .at)
+          (l .tries) (l .inv .2) e (c .if1 .left),
     )
 
 lost-requires : tie.Need-lost-requires Inv-loop μ-loop
@@ -80,7 +81,7 @@ returns-2 c =
     let l = c .before .before .loop in
     let f = c .lost in
     let none-found = lost-found (f .result .found) (f .result .count) (f .result .at) (f .ensures .0) in (
-      next-none (by (a .c) (a .tables .now) (a .sums .now)) (a .made) (length (a .sums .now)) (f .result .found) (f .result .count) (f .result .at)
+      next-none (locatedAt (a .c) (a .tables .now) (a .tests .now)) (a .made) (length (a .tests .now)) (f .result .found) (f .result .count) (f .result .at)
           (l .tries) (l .inv .0) (l .inv .1) (omega arith) (l .inv .2) none-found,
       (f .ensures .1, f .ensures .2),
     )
@@ -92,8 +93,9 @@ next-spec =
     Inv-loop
     μ-loop
     loop-holds
-    mul-locate
-    shared-slice-read-locate
+    mul-syndromes-in
+    shared-slice-read-syndromes-in
+    syndromes-in-requires
     locate-requires
     add-tries
     returns

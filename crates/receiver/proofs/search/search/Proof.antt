@@ -7,7 +7,7 @@ use lib.Pow.{pow-pos}
 use Rattle.bch.proofs.logarithms.LogAnswers.{syndromesOf}
 use Rattle.chase.specs.Soft.{hardBits}
 use Rattle.chase.proofs.test_words.Reach.{bits-hard}
-use Rattle.chase.proofs.search.Ready.{sums-first, weights-first}
+use Rattle.chase.proofs.search.Ready.{tests-first}
 use Rattle.refusal.specs.Named.{codeOf}
 use Rattle.receiver.specs.Search.{TestWords}
 use Rattle.receiver.proofs.HighBits.{symbol-bits}
@@ -25,54 +25,52 @@ syndromes-requires c κs =
     let r = c .before .before .pre in
     (r .filled .fielded, r .long, omega arith, rw symbol-bits (bits-hard _ (r .deep .ready .symbols)))
 
+cast-base : tie.Need-cast-base
+cast-base c = search needs
+
 slice-aggregate-try-on : tie.Need-slice-aggregate-try-on
 slice-aggregate-try-on c = search needs
-
-slice-aggregate-try-on-2 : tie.Need-slice-aggregate-try-on-2
-slice-aggregate-try-on-2 c = search needs
 
 untried-requires : tie.Need-untried-requires
 untried-requires c κs = search needs
 
 try-on-requires : tie.Need-try-on-requires
 try-on-requires c κs =
-    let s = c .before .before .before .before .before .before in
+    let s = c .before .before .before .before .before in
     let a = s .args in
     let r = s .pre in
     let k = codeOf (a .c) in
-    let base = c .before .before .before .syndromes .result in
-    let tests : TestWords k (a .p) (a .s .now) (base ∷ []) (0 ∷ []) =
+    let base = c .before .before .syndromes in
+    let tests : TestWords k (a .p) (a .s .now) (base .result ∷ []) =
     record {
       most = pow-pos (a .p);
-      as-many = refl;
-      are-sums = sums-first (a .s .now) (a .keys .at) (a .p) (r .deep .ready) k base (base ∷ []) (summed (c .before .before .before)) refl;
-      are-weights = weights-first (a .s .now) (a .keys .at) (a .p) (r .deep .ready) (0 ∷ []) refl;
+      are-tests = tests-first (a .s .now) (a .keys .at) (a .p) (r .deep .ready) k (r .filled .fielded .made .lawful) _ (base .result ∷ []) (summed (c .before .before)) refl;
     } in
     let u = c .untried .ensures in
     ((r, tests), (tried-none k (a .p) (a .s .now) _ u, u .unsure, omega (arith, u .none-made)))
 
 returns : tie.Need-returns
 returns c =
-    let a = c .before .before .before .before .before .before .before .before .args in
+    let a = c .before .before .before .before .before .before .before .args in
     let e = c .before .try-on .ensures in
     (tried-all (codeOf (a .c)) (a .p) (a .s .now) _ (e .0) (λ z. no-bool (sym (c .if1 .taken) ∙ z)), e .0 .sound)
 
 returns-2 : tie.Need-returns-2
 returns-2 c =
-    let a = c .before .before .before .before .before .before .before .before .before .args in
+    let a = c .before .before .before .before .before .before .before .before .args in
     let e = c .before .before .try-on .ensures in
     let one : 1 ≡ 2 ^ a .p = sym (ap (λ (n : ℕ). 2 ^ n) (c .if2 .taken)) in
     (tried-all (codeOf (a .c)) (a .p) (a .s .now) _ (e .0) (λ z. e .1 z ∙ one), e .0 .sound)
 
 search-on-requires : tie.Need-search-on-requires
 search-on-requires c κs =
-    let s = c .before .before .before .before .before .before .before .before .before in
+    let s = c .before .before .before .before .before .before .before .before in
     let e = c .before .before .try-on .ensures in
-    ((s .pre, summed (c .before .before .before .before .before .before)), (e .0, c .before .if1 .left, e .1 (c .before .if1 .left)))
+    ((s .pre, summed (c .before .before .before .before .before)), (e .0, c .before .if1 .left, e .1 (c .before .if1 .left)))
 
 returns-3 : tie.Need-returns-3
 returns-3 c =
-    let a = c .before .before .before .before .before .before .before .before .before .before .args in
+    let a = c .before .before .before .before .before .before .before .before .before .args in
     let e = c .search-on .ensures in
     (tried-all (codeOf (a .c)) (a .p) (a .s .now) _ (e .0) (e .1), e .0 .sound)
 
@@ -81,8 +79,8 @@ search-spec =
     tie.close
     (tie.spec
     syndromes-requires
+    cast-base
     slice-aggregate-try-on
-    slice-aggregate-try-on-2
     untried-requires
     try-on-requires
     returns

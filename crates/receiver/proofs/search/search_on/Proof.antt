@@ -5,14 +5,11 @@ use native.Mathlib.Numerals.{add-one}
 use native.Mathlib.Omega.{arith}
 use mathlib.Core.Path.{_≡_, refl, ap, sym, subst, _∙_}
 use mathlib.Core.Bool.{false}
+use mathlib.Core.List.{List}
 use lib.ListN.{length, getD, set, replicate}
 use lib.Seq.{length-take-le}
-use Rattle.bch.proofs.logarithms.LogAnswers.{syndromesOf}
-use Rattle.chase.specs.Soft.{hardBits, reliabilities}
-use Rattle.chase.specs.Word.{test}
-use Rattle.chase.proofs.test_words.Doublings.{Holds, size-most}
-use Rattle.chase.proofs.weighing.Weights.{packedWeight}
-use Rattle.chase.proofs.search.Ready.{key-below, sums-first, sums-next, weights-first, weights-next, weights-small}
+use Rattle.chase.proofs.test_words.Doublings.{Doubled, Holds, size-most}
+use Rattle.chase.proofs.search.Ready.{packedTest, flippedMore, key-below, tests-first, tests-next, tests-small}
 use Rattle.refusal.specs.Named.{codeOf}
 use Rattle.receiver.specs.Search.{Tried}
 use Rattle.receiver.proofs.Turns.{test-words}
@@ -24,14 +21,12 @@ use Rattle.receiver.proofs.search.search_on.Statement.{statement}
 use Rattle.receiver.proofs.search.search_on.Tie as tie
 
 abbrev Inv-loop : tie.InvT-loop
-Inv-loop c tables s keys p base at sums₀ weights₀ o₀ to₀ b₀ sums weights o to b =
-    (b ≤ p) × (to ≡ 2 ^ b) × (length sums ≡ 64) × (length weights ≡ 64)
-    × Holds (λ (j : ℕ). syndromesOf (codeOf c) (test p s j)) (2 ^ b) sums
-    × Holds (λ (j : ℕ). packedWeight (reliabilities s) (test p s j) (hardBits s)) (2 ^ b) weights
+Inv-loop c tables s keys p base at tests₀ o₀ to₀ b₀ tests o to b =
+    (b ≤ p) × (to ≡ 2 ^ b) × (length tests ≡ 64) × Holds (packedTest (codeOf c) p s) (2 ^ b) tests
     × Tried (codeOf c) p s o × (o .sure ≡ false) × (o .tries ≤ 2 ^ b) × (b ≡ p → o .tries ≡ 2 ^ b)
 
 abbrev μ-loop : tie.MeasureT-loop
-μ-loop c tables s keys p base at sums₀ weights₀ o₀ to₀ b₀ sums weights o to b = p - b
+μ-loop c tables s keys p base at tests₀ o₀ to₀ b₀ tests o to b = p - b
 
 -- ---- one weak position more: from `to` test words of b positions to twice as many, of p positions at most
 
@@ -44,8 +39,7 @@ record Step (b p to : ℕ) : Type 0 where
   doubled : 2 * to ≡ 2 ^ (b + 1)
   to-fits : Fits w64 (2 * to)
   to-most : 2 * to ≤ 64
-  room : (n : ℕ) → n ≡ 64 → to + to ≤ n
-  share : (n m : ℕ) → m ≡ n → n ≡ 64 → 2 * to ≤ m
+  room : (n : ℕ) → n ≡ 64 → 2 * to ≤ n
   tried : (k n : ℕ) → k ≤ 2 ^ b → n ≡ 2 * to → k ≤ n
   grown : (k : ℕ) → k ≤ 2 ^ b → k ≤ 2 ^ (b + 1)
 
@@ -63,13 +57,26 @@ step b p to more depth is-to =
       to-fits = record { fits = omega arith };
       to-most = omega arith;
       room = λ n e. omega arith;
-      share = λ n m k e. omega arith;
       tried = λ k n h e. omega arith;
       grown = λ k h. omega arith;
     }
 
 step-at : (o : tie.In-loop Inv-loop μ-loop) → Step (o .before .loop .b) (o .before .before .before .before .before .args .p) (o .before .loop .to)
 step-at o = step _ _ _ (o .loop-test .taken) (o .before .before .before .before .before .pre .0 .0 .deep .ready .depth) (o .before .loop .inv .1)
+
+-- the test words that flip it too
+more-at : (o : tie.In-loop Inv-loop μ-loop) (new : List ℕ)
+    → Doubled (flippedMore (codeOf (o .before .before .before .before .before .args .c)) (getD (o .before .before .before .before .before .args .keys .at) (o .before .loop .b) 0)) (o .before .loop .to) (o .before .loop .tests) new
+    → (length new ≡ 64) × Holds (packedTest (codeOf (o .before .before .before .before .before .args .c)) (o .before .before .before .before .before .args .p) (o .before .before .before .before .before .args .s .now)) (2 ^ (o .before .loop .b + 1)) new
+more-at o new d =
+    let s = o .before .before .before .before .before in
+    let a = s .args in
+    let r = s .pre .0 .0 in
+    let l = o .before .loop in (
+      d .long ∙ l .inv .2,
+      tests-next (a .s .now) (a .keys .at) (a .p) (r .deep .ready) (codeOf (a .c)) (r .filled .fielded .made .lawful) (l .b) (l .to) (l .tests) new
+          (o .loop-test .taken) (l .inv .1) d (l .inv .3),
+    )
 
 eq-le : (a b : ℕ) → a ≡ b → a ≤ b
 eq-le a b e = omega arith
@@ -80,20 +87,19 @@ not-both a b h e = omega arith
 at-end : (b p : ℕ) → b ≤ p → p ≤ b → b ≡ p
 at-end b p h k = omega arith
 
-array-write-sums : tie.Need-array-write-sums Inv-loop μ-loop
-array-write-sums c = search needs
+array-write-tests : tie.Need-array-write-tests Inv-loop μ-loop
+array-write-tests c = search needs
 
 loop-holds : tie.Need-loop-holds Inv-loop μ-loop
 loop-holds c =
     let s = c .before .before .before in
     let a = s .args in
-    let r = s .pre .0 .0 .deep .ready in (
+    let r = s .pre .0 .0 in
+    let tests = set (replicate 64 0) 0 (a .base) in (
       omega arith,
       refl,
       refl,
-      refl,
-      sums-first (a .s .now) (a .keys .at) (a .p) r (codeOf (a .c)) (a .base) (set (replicate 64 0) 0 (a .base)) (s .pre .0 .1) refl,
-      weights-first (a .s .now) (a .keys .at) (a .p) r (replicate 64 0) refl,
+      tests-first (a .s .now) (a .keys .at) (a .p) (r .deep .ready) (codeOf (a .c)) (r .filled .fielded .made .lawful) (a .base) tests (s .pre .0 .1) refl,
       s .pre .1 .0,
       s .pre .1 .1,
       omega (arith, s .pre .1 .2),
@@ -109,134 +115,81 @@ array-read-double c = step-at c .inside
 slice-aggregate-double : tie.Need-slice-aggregate-double Inv-loop μ-loop
 slice-aggregate-double c = search needs
 
-slice-aggregate-double-2 : tie.Need-slice-aggregate-double-2 Inv-loop μ-loop
-slice-aggregate-double-2 c = search needs
-
 double-requires : tie.Need-double-requires Inv-loop μ-loop
 double-requires c κs =
-    let s = c .before .before .before .before .before .before .before in
+    let s = c .before .before .before .before .before .before in
     let a = s .args in
-    let l = c .before .before .before .loop in
+    let l = c .before .before .loop in
     let r = s .pre .0 .0 in
     let ready = r .deep .ready in
-    let z = step-at (c .before .before) in
+    let z = step-at (c .before) in
     let below = key-below (a .s .now) (a .keys .at) (a .p) ready (l .b) (z .more) in
     let small =
-    weights-small (a .s .now) (a .keys .at) (a .p) ready (l .to) (l .weights) (λ k h. l .inv .5 k (subst (λ (n : ℕ). k < n) (l .inv .1) h)) in (
-      (r .filled .fielded, subst (λ (n : ℕ). getD (a .keys .at) (l .b) 0 % 1024 < n) (r .long) below),
-      (z .room _ (l .inv .2), z .room _ (l .inv .3), small),
-    )
+    tests-small (a .s .now) (a .keys .at) (a .p) ready (codeOf (a .c)) (r .filled .fielded .made .lawful) (l .b) (l .to) (l .tests) (l .inv .1) (l .inv .3) in
+    ((r .filled .fielded, subst (λ (n : ℕ). getD (a .keys .at) (l .b) 0 % 1024 < n) (r .long) below), (z .room _ (l .inv .2), small))
 
 mul-to : tie.Need-mul-to Inv-loop μ-loop
-mul-to c = step-at (c .before .before .before .before .before) .to-fits
+mul-to c = step-at (c .before .before .before) .to-fits
 
 add-b : tie.Need-add-b Inv-loop μ-loop
-add-b c = step-at (c .before .before .before .before .before) .next-fits
+add-b c = step-at (c .before .before .before) .next-fits
 
 due-requires : tie.Need-due-requires Inv-loop μ-loop
-due-requires c κs = step-at (c .before .before .before .before .before) .next
+due-requires c κs = step-at (c .before .before .before) .next
 
-array-share-prefix-sums : tie.Need-array-share-prefix-sums Inv-loop μ-loop
-array-share-prefix-sums c =
-    let o = c .before .before .before .before .before .before .before in
-    step-at o .share _ _ (c .before .before .before .before .double .ensures .0 .long) (o .before .loop .inv .2)
+array-share-prefix-tests : tie.Need-array-share-prefix-tests Inv-loop μ-loop
+array-share-prefix-tests c =
+    let o = c .before .before .before .before .before in
+    step-at o .room _ (more-at o _ (c .before .before .before .double .ensures) .0)
 
 slice-aggregate-try-on : tie.Need-slice-aggregate-try-on Inv-loop μ-loop
 slice-aggregate-try-on c =
-    let o = c .before .before .before .before .before .before .before .before in
-    sym (length-take-le (2 * o .before .loop .to) _
-    (step-at o .share _ _ (c .before .before .before .before .before .double .ensures .0 .long) (o .before .loop .inv .2)))
-
-array-share-prefix-weights : tie.Need-array-share-prefix-weights Inv-loop μ-loop
-array-share-prefix-weights c =
-    let o = c .before .before .before .before .before .before .before .before in
-    step-at o .share _ _ (c .before .before .before .before .before .double .ensures .1 .long) (o .before .loop .inv .3)
-
-slice-aggregate-try-on-2 : tie.Need-slice-aggregate-try-on-2 Inv-loop μ-loop
-slice-aggregate-try-on-2 c =
-    let o = c .before .before .before .before .before .before .before .before .before in
-    sym (length-take-le (2 * o .before .loop .to) _
-    (step-at o .share _ _ (c .before .before .before .before .before .before .double .ensures .1 .long) (o .before .loop .inv .3)))
+    let o = c .before .before .before .before .before .before in
+    sym (length-take-le (2 * o .before .loop .to) _ (step-at o .room _ (more-at o _ (c .before .before .before .before .double .ensures) .0)))
 
 try-on-requires : tie.Need-try-on-requires Inv-loop μ-loop
 try-on-requires c κs =
-    let o = c .before .before .before .before .before .before .before .before .before in
-    let d = c .before .before .before .before .before .before .double .ensures in
+    let o = c .before .before .before .before .before .before in
     let s = o .before .before .before .before .before in
     let a = s .args in
     let l = o .before .loop in
-    let r = s .pre .0 .0 in
     let z = step-at o in
-    let sums =
-    sums-next (a .s .now) (a .keys .at) (a .p) (r .deep .ready) (codeOf (a .c)) (r .filled .fielded .made .lawful) (l .b) (l .to) _ (l .sums) _
-    (z .more) (l .inv .1) refl (d .0) (l .inv .4) in
-    let weights =
-    weights-next (a .s .now) (a .keys .at) (a .p) (r .deep .ready) (l .b) (l .to) _ (l .weights) _ (z .more) (l .inv .1) refl (d .1) (l .inv .5) in
-    let ready =
-    test-words (codeOf (a .c)) (a .p) (l .b + 1) (2 * l .to) (a .s .now) _ _ (z .next) (z .doubled) (z .to-most) (d .0 .long ∙ l .inv .2)
-    (d .1 .long ∙ l .inv .3) sums weights in
-    ((r, ready .0), (l .inv .6, l .inv .7, z .tried _ _ (l .inv .8) (ready .1)))
+    let m = more-at o _ (c .before .before .before .before .double .ensures) in
+    let ready = test-words (codeOf (a .c)) (a .p) (l .b + 1) (2 * l .to) (a .s .now) _ (z .next) (z .doubled) (z .to-most) (m .0) (m .1) in
+    ((s .pre .0 .0, ready .0), (l .inv .4, l .inv .5, z .tried _ _ (l .inv .6) (ready .1)))
 
 returns : tie.Need-returns Inv-loop μ-loop
 returns c = (c .before .try-on .ensures .0, λ z. no-bool (sym (c .if2 .taken) ∙ z))
 
 loop-less : tie.Need-loop-less Inv-loop μ-loop
-loop-less c = step-at (c .before .before .before .before .before .before .before .before .before .before .before) .falls
+loop-less c = step-at (c .before .before .before .before .before .before .before .before) .falls
 
 loop-again : tie.Need-loop-again Inv-loop μ-loop
 loop-again c =
-    let o = c .before .before .before .before .before .before .before .before .before .before .before in
-    let d = c .before .before .before .before .before .before .before .before .double .ensures in
-    let s = o .before .before .before .before .before in
-    let a = s .args in
-    let l = o .before .loop in
-    let r = s .pre .0 .0 in
+    let o = c .before .before .before .before .before .before .before .before in
     let z = step-at o in
-    let sums =
-    sums-next (a .s .now) (a .keys .at) (a .p) (r .deep .ready) (codeOf (a .c)) (r .filled .fielded .made .lawful) (l .b) (l .to) _ (l .sums) _
-    (z .more) (l .inv .1) refl (d .0) (l .inv .4) in
-    let weights =
-    weights-next (a .s .now) (a .keys .at) (a .p) (r .deep .ready) (l .b) (l .to) _ (l .weights) _ (z .more) (l .inv .1) refl (d .1) (l .inv .5) in
+    let m = more-at o _ (c .before .before .before .before .before .before .double .ensures) in
     let e = c .before .try-on .ensures in
-    let long = e .1 (c .if2 .left) ∙ length-take-le (2 * l .to) _ (z .share _ _ (d .0 .long) (l .inv .2)) in
-    let made = long ∙ z .doubled in
-    (z .next, z .doubled, d .0 .long ∙ l .inv .2, d .1 .long ∙ l .inv .3, sums, weights, e .0, c .if2 .left, eq-le _ _ made, λ _. made)
+    let made = e .1 (c .if2 .left) ∙ length-take-le (2 * o .before .loop .to) _ (z .room _ (m .0)) ∙ z .doubled in
+    (z .next, z .doubled, m .0, m .1, e .0, c .if2 .left, eq-le _ _ made, λ _. made)
 
 loop-less-2 : tie.Need-loop-less-2 Inv-loop μ-loop
-loop-less-2 c = step-at (c .before .before .before .before .before .before .before) .falls
+loop-less-2 c = step-at (c .before .before .before .before .before) .falls
 
 loop-again-2 : tie.Need-loop-again-2 Inv-loop μ-loop
 loop-again-2 c =
-    let o = c .before .before .before .before .before .before .before in
-    let d = c .before .before .before .before .double .ensures in
-    let s = o .before .before .before .before .before in
-    let a = s .args in
+    let o = c .before .before .before .before .before in
     let l = o .before .loop in
-    let r = s .pre .0 .0 in
     let z = step-at o in
-    let sums =
-    sums-next (a .s .now) (a .keys .at) (a .p) (r .deep .ready) (codeOf (a .c)) (r .filled .fielded .made .lawful) (l .b) (l .to) _ (l .sums) _
-    (z .more) (l .inv .1) refl (d .0) (l .inv .4) in
-    let weights =
-    weights-next (a .s .now) (a .keys .at) (a .p) (r .deep .ready) (l .b) (l .to) _ (l .weights) _ (z .more) (l .inv .1) refl (d .1) (l .inv .5) in
-    let later = c .before .due .ensures (c .if1 .left) in (
-      z .next,
-      z .doubled,
-      d .0 .long ∙ l .inv .2,
-      d .1 .long ∙ l .inv .3,
-      sums,
-      weights,
-      l .inv .6,
-      l .inv .7,
-      z .grown _ (l .inv .8),
-      λ q. absurd (not-both _ _ later q),
-    )
+    let m = more-at o _ (c .before .before .before .double .ensures) in
+    let later = c .before .due .ensures (c .if1 .left) in
+    (z .next, z .doubled, m .0, m .1, l .inv .4, l .inv .5, z .grown _ (l .inv .6), λ q. absurd (not-both _ _ later q))
 
 returns-2 : tie.Need-returns-2 Inv-loop μ-loop
 returns-2 c =
     let l = c .before .loop in
     let e = at-end _ _ (l .inv .0) (c .loop-test .left) in
-    (l .inv .6, λ _. l .inv .9 e ∙ ap (λ (n : ℕ). 2 ^ n) e)
+    (l .inv .4, λ _. l .inv .7 e ∙ ap (λ (n : ℕ). 2 ^ n) e)
 
 pub search-on-spec : {M : Type 1} → statement M
 search-on-spec =
@@ -244,20 +197,17 @@ search-on-spec =
     (tie.spec
     Inv-loop
     μ-loop
-    array-write-sums
+    array-write-tests
     loop-holds
     mul-double
     array-read-double
     slice-aggregate-double
-    slice-aggregate-double-2
     double-requires
     mul-to
     add-b
     due-requires
-    array-share-prefix-sums
+    array-share-prefix-tests
     slice-aggregate-try-on
-    array-share-prefix-weights
-    slice-aggregate-try-on-2
     try-on-requires
     returns
     loop-less

@@ -15,32 +15,29 @@ use Rattle.receiver.proofs.search.try_on.Statement.{statement}
 use Rattle.receiver.proofs.search.try_on.Tie as tie
 
 abbrev Inv-loop : tie.InvT-loop
-Inv-loop c tables s keys p sums weights d o₀ o = Tried (codeOf c) p s o × (o .sure ≡ false) × (o .tries ≤ length sums)
+Inv-loop c tables s keys p tests d o₀ o = Tried (codeOf c) p s o × (o .sure ≡ false) × (o .tries ≤ length tests)
 
 abbrev μ-loop : tie.MeasureT-loop
-μ-loop c tables s keys p sums weights d o₀ o = length sums - o .tries
+μ-loop c tables s keys p tests d o₀ o = length tests - o .tries
 
 -- the outcome with one candidate more
 after : (c : tie.After-judged Inv-loop μ-loop)
-    → Tried (codeOf (c .before .before .before .before .before .before .before .before .before .before .before .before .before .before .args .c))
-    (c .before .before .before .before .before .before .before .before .before .before .before .before .before .before .args .p)
-    (c .before .before .before .before .before .before .before .before .before .before .before .before .before .before .args .s .now) (c .judged .result)
-    × (c .judged .result .tries ≡ c .before .before .before .before .before .next .result .tries)
-    × (c .before .before .before .before .before .before .before .before .loop .o .tries < c .before .before .before .before .before .next .result .tries)
-    × (c .before .before .before .before .before .next .result .tries ≤ length
-    (c .before .before .before .before .before .before .before .before .before .before .before .before .before .before .args .sums .now))
+    → Tried (codeOf (c .before .before .before .before .before .before .before .before .before .before .before .before .before .before .args .c)) (c .before .before .before .before .before .before .before .before .before .before .before .before .before .before .args .p) (c .before .before .before .before .before .before .before .before .before .before .before .before .before .before .args .s .now) (c .judged .result)
+    × (c .judged .result .tries ≡ c .before .before .before .before .before .before .next .result .tries)
+    × (c .before .before .before .before .before .before .before .before .before .loop .o .tries < c .before .before .before .before .before .before .next .result .tries)
+    × (c .before .before .before .before .before .before .next .result .tries ≤ length (c .before .before .before .before .before .before .before .before .before .before .before .before .before .before .args .tests .now))
 after c =
     let s = c .before .before .before .before .before .before .before .before .before .before .before .before .before .before in
     let a = s .args in
-    let l = c .before .before .before .before .before .before .before .before .loop in
-    let n = c .before .before .before .before .before .next in
+    let l = c .before .before .before .before .before .before .before .before .before .loop in
+    let n = c .before .before .before .before .before .before .next in
     let f = n .result .flips in
-    let z = not-false _ (c .before .before .before .before .if2 .left) in
+    let z = not-false _ (c .before .before .before .before .before .if2 .left) in
     let e : c .judged .result ≡ _ = c .judged .ensures in
-    let d = c .before .before .before .before .before .before .before .before .before .distance .ensures ∙ s .pre .0 .0 .filled .fielded .made .is-d in
+    let d = c .before .before .before .before .before .before .before .before .before .before .distance .ensures ∙ s .pre .0 .0 .filled .fielded .made .is-d in
     let w = c .before .weigh in
     let t =
-    turn-judged (a .c) (a .tables .now) (a .s .now) (a .keys .at) (a .p) (a .sums .now) (a .weights .now) (s .pre .0 .0) (s .pre .0 .1) (l .o) (l .inv .1)
+    turn-judged (a .c) (a .tables .now) (a .s .now) (a .keys .at) (a .p) (a .tests .now) (s .pre .0 .0) (s .pre .0 .1) (l .o) (l .inv .1)
     (l .inv .0) (n .result .tries) f (n .ensures .0) z (n .ensures .1 .0) (n .ensures .1 .1) (w .result) (w .ensures) in
     let r = rw d at e in
     (rw r t, rw r (judged-tries _ _ _ _), n .ensures .0 .there z .0, n .ensures .0 .most)
@@ -49,71 +46,69 @@ distance-requires : tie.Need-distance-requires Inv-loop μ-loop
 distance-requires c κs = search needs
 
 loop-holds : tie.Need-loop-holds Inv-loop μ-loop
-loop-holds c = let s = c .before .before .before .before .before in (s .pre .1 .0, s .pre .1 .1, s .pre .1 .2)
+loop-holds c = let s = c .before .before .before .before in (s .pre .1 .0, s .pre .1 .1, s .pre .1 .2)
 
 next-requires : tie.Need-next-requires Inv-loop μ-loop
 next-requires c κs =
-    let s = c .before .before .before .before .before .before .before .before in
+    let s = c .before .before .before .before .before .before .before in
     let a = s .args in
     let syndromes =
-    are-syndromes (a .c) (a .tables .now) (a .s .now) (a .keys .at) (a .p) (a .sums .now) (a .weights .now) (s .pre .0 .0) (s .pre .0 .1) in
+    are-syndromes (a .c) (a .tables .now) (a .s .now) (a .keys .at) (a .p) (a .tests .now) (s .pre .0 .0) (s .pre .0 .1) in
     (s .pre .0 .0 .filled, syndromes, c .before .before .loop .inv .2)
 
 returns : tie.Need-returns Inv-loop μ-loop
 returns c =
-    let s = c .before .before .before .before .before .before .before .before .before .before in
+    let s = c .before .before .before .before .before .before .before .before .before in
     let a = s .args in
     let l = c .before .before .before .before .loop in
     let n = c .before .next in
     let t =
-    turn-missed (a .c) (a .tables .now) (a .s .now) (a .keys .at) (a .p) (a .sums .now) (a .weights .now) (s .pre .0 .0) (s .pre .0 .1) (l .o) (l .inv .1)
+    turn-missed (a .c) (a .tables .now) (a .s .now) (a .keys .at) (a .p) (a .tests .now) (s .pre .0 .0) (s .pre .0 .1) (l .o) (l .inv .1)
     (l .inv .0) (n .result .tries) (n .result .flips) (n .ensures .0) (not-true _ (c .if2 .taken)) in
     (t .0, λ _. t .1)
 
 sub-j : tie.Need-sub-j Inv-loop μ-loop
 sub-j c = omega (arith, c .before .before .next .ensures .0 .there (not-false _ (c .before .if2 .left)) .0)
 
-mul-weigh : tie.Need-mul-weigh Inv-loop μ-loop
-mul-weigh c =
-    let s = c .before .before .before .before .before .before .before .before .before .before .before in
+mul-weight-in : tie.Need-mul-weight-in Inv-loop μ-loop
+mul-weight-in c =
+    let s = c .before .before .before .before .before .before .before .before .before .before in
     let h : 2 ^ s .args .p ≤ 2 ^ 6 = pow-mono {j = 6} (s .pre .0 .0 .deep .ready .depth) in
     omega (arith, c .before .before .next .ensures .0 .most, s .pre .0 .1 .most)
 
-shared-slice-read-weigh : tie.Need-shared-slice-read-weigh Inv-loop μ-loop
-shared-slice-read-weigh c =
+shared-slice-read-weight-in : tie.Need-shared-slice-read-weight-in Inv-loop μ-loop
+shared-slice-read-weight-in c =
     let n = c .before .before .before .next .ensures .0 in
-    omega (
-      arith,
-      n .there (not-false _ (c .before .before .if2 .left)) .0,
-      n .most,
-      c .before .before .before .before .before .before .before .before .before .before .before .before .pre .0 .1 .as-many,
-    )
+    omega (arith, n .there (not-false _ (c .before .before .if2 .left)) .0, n .most)
+
+weight-in-requires : tie.Need-weight-in-requires Inv-loop μ-loop
+weight-in-requires c κs = search needs
 
 weigh-requires : tie.Need-weigh-requires Inv-loop μ-loop
 weigh-requires c κs =
     let s = c .before .before .before .before .before .before .before .before .before .before .before .before in
     let a = s .args in
-    let l = c .before .before .before .before .before .before .loop in
-    let n = c .before .before .before .next in
-    let z = not-false _ (c .before .before .if2 .left) in
+    let l = c .before .before .before .before .before .before .before .loop in
+    let n = c .before .before .before .before .next in
+    let z = not-false _ (c .before .before .before .if2 .left) in
     let e = n .ensures .1 in
     let weight =
-    turn-weight (a .c) (a .tables .now) (a .s .now) (a .keys .at) (a .p) (a .sums .now) (a .weights .now) (s .pre .0 .0) (s .pre .0 .1) (l .o) (l .inv .1)
+    turn-weight (a .c) (a .tables .now) (a .s .now) (a .keys .at) (a .p) (a .tests .now) (s .pre .0 .0) (s .pre .0 .1) (l .o) (l .inv .1)
     (l .inv .0) (n .result .tries) (n .result .flips) (n .ensures .0) z (e .0) (e .1) in
     let distinct =
-    turn-distinct (a .c) (a .tables .now) (a .s .now) (a .keys .at) (a .p) (a .sums .now) (a .weights .now) (s .pre .0 .0) (s .pre .0 .1) (l .o) (l .inv .1)
+    turn-distinct (a .c) (a .tables .now) (a .s .now) (a .keys .at) (a .p) (a .tests .now) (s .pre .0 .0) (s .pre .0 .1) (l .o) (l .inv .1)
     (l .inv .0) (n .result .tries) (n .result .flips) (n .ensures .0) z (e .0) (e .1) in
-    (s .pre .0 .0 .deep .ready, ((e .1, e .0, distinct), weight))
+    (s .pre .0 .0 .deep .ready, ((e .1, e .0, distinct), c .weight-in .ensures ∙ weight))
 
 judged-requires : tie.Need-judged-requires Inv-loop μ-loop
 judged-requires c κs =
     let s = c .before .before .before .before .before .before .before .before .before .before .before .before .before in
     let k = s .pre .0 .0 in
-    let n = c .before .before .before .before .next .ensures .0 .there (not-false _ (c .before .before .before .if2 .left)) .0 in
-    let d : c .before .before .before .before .before .before .before .before .distance .result ≤ 8 =
+    let n = c .before .before .before .before .before .next .ensures .0 .there (not-false _ (c .before .before .before .before .if2 .left)) .0 in
+    let d : c .before .before .before .before .before .before .before .before .before .distance .result ≤ 8 =
     omega (
       arith,
-      c .before .before .before .before .before .before .before .before .distance .ensures,
+      c .before .before .before .before .before .before .before .before .before .distance .ensures,
       k .filled .fielded .made .is-d,
       k .filled .fielded .made .lawful .t-most,
     ) in
@@ -146,8 +141,9 @@ try-on-spec =
     next-requires
     returns
     sub-j
-    mul-weigh
-    shared-slice-read-weigh
+    mul-weight-in
+    shared-slice-read-weight-in
+    weight-in-requires
     weigh-requires
     judged-requires
     returns-2
