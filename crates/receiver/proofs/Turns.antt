@@ -12,7 +12,6 @@ use Rattle.bch.specs.Words.{Distinct, flippedAt}
 use Rattle.bch.specs.Code.{Code, designDistance}
 use Rattle.bch.proofs.logarithms.LogAnswers.{syndromesOf}
 use Rattle.bch.proofs.tables.Placing.{Placed}
-use Rattle.bch.proofs.logarithms.Seeking.{Next}
 use Rattle.bch.proofs.codes.Settings.{Lawful}
 use Rattle.chase.specs.Soft.{hardBits, reliabilities, candidate, tried}
 use Rattle.chase.specs.Word.{test}
@@ -24,7 +23,7 @@ use Rattle.chase.proofs.search.Tries.{try-parts, try-missed, try-placed, try-di
 use Rattle.chase.proofs.weighing.Weights.{Weighs, packedWeight, weighs-small}
 use Rattle.refusal.specs.Named.{codeOf}
 use Rattle.refusal.specs.declared.Code as refusal
-use Rattle.receiver.specs.Located.{flipsOf, sumsAt, AreSyndromes, locatedAt}
+use Rattle.receiver.specs.Located.{flipsOf, sumsAt, AreSyndromes, locatedAt, Sought}
 use Rattle.receiver.specs.Search.{pickOf, pickBy, judgedBy, Sound, Tried, Ready, TestWords}
 use Rattle.receiver.specs.declared.locate.Flips.{Flips}
 use Rattle.receiver.specs.declared.weighing.Weight.{Weight}
@@ -60,7 +59,7 @@ module _ (c : refusal.Code) (tables ss ks : List ℕ) (p : ℕ) (ts : List ℕ) 
       try-parts (c .m) (c .t) (c .n) lawful tables (ready .filled .tables) ss ks p (ready .deep) (ready .long) j (sumsAt ts j) (are-sums j h)
 
   module _ (o : Outcome) (unsure : o .sure ≡ false) (t : Tried (codeOf c) p ss o) (tries : ℕ) (f : Flips)
-      (next : Next (locatedAt c tables ts) (o .tries) (length ts) tries (f .found) (f .count) (f .at)) where
+      (next : Sought c tables ts (o .tries) tries f) where
     -- nothing is located
     pub turn-missed : f .found ≡ false → Tried (codeOf c) p ss (record { sure = o .sure; tries = tries; pick = o .pick }) × (tries ≡ length ts)
     turn-missed z =

@@ -10,6 +10,7 @@ use Rattle.bch.proofs.logarithms.LogAnswers.{syndromesOf}
 use Rattle.bch.proofs.logarithms.LogBounds.{Syndromes}
 use Rattle.bch.proofs.logarithms.LogLocator.{locateIn}
 use Rattle.bch.proofs.logarithms.Repairs.{Repairs}
+use Rattle.bch.proofs.logarithms.Seeking.{Next}
 use Rattle.bch.proofs.tables.Placing.{Placed, positions}
 use Rattle.refusal.specs.Named.{codeOf}
 use Rattle.refusal.specs.declared.Code as refusal
@@ -38,6 +39,10 @@ AreSyndromes c tests = (j : ℕ) → j < length tests → Syndromes (c .m) (c .t
 -- .. and this is located for them
 abbrev pub locatedAt : refusal.Code → List ℕ → List ℕ → ℕ → Option (List ℕ)
 locatedAt c tables tests j = locateIn (c .m) (c .t) (c .n) tables (sumsAt tests j)
+
+-- after so many tries are made, those until positions are located, and the positions
+abbrev pub Sought : refusal.Code → List ℕ → List ℕ → ℕ → ℕ → Flips → Type 0
+Sought c tables tests made tries f = Next (locatedAt c tables tests) made (length tests) tries (f .found) (f .count) (f .at)
 
 -- they are where the hard stage flips, for every word of these syndromes
 abbrev pub Repairing : refusal.Code → ℕ → Flips → Type 0

@@ -23,8 +23,7 @@ ghost use Rattle.bch.proofs.decoding.KappaSums.{within};
 ghost use Rattle.bch.proofs.tables.CodeTables.{logIn, powersIn};
 ghost use Rattle.bch.proofs.logarithms.LogLocator.{pairIn, trioIn, cubesIn, kappaIn, locateIn};
 ghost use Rattle.bch.proofs.logarithms.LogBounds.{Syndromes};
-ghost use Rattle.bch.proofs.logarithms.Seeking.{Next as Seeking·Next};
-ghost use Rattle.receiver.specs.Located.{Located, AreSyndromes, locatedAt};
+ghost use Rattle.receiver.specs.Located.{Located, AreSyndromes, Sought};
 ghost use Rattle.receiver.specs.Tables.{Fielded, Filled};
 use crate::tables;
 use crate::test_words;
@@ -266,7 +265,7 @@ pub struct Spot {
 // stages go through here: a function that is called from one place alone is compiled into it, and a try then costs no call of `locate`.)
 pub fn next(c: Code, tables: &[u32], tests: &[u64], made: usize) -> Spot
     requires { ⌜ Filled c (now tables) × AreSyndromes c (now tests) × (made ≤ length (now tests)) ⌝ }
-    ensures { λ r. ⌜ Seeking·Next (locatedAt c (now (tables .entry)) (now (tests .entry))) made (length (now (tests .entry))) (r .tries) (r .flips .found) (r .flips .count) (r .flips .at) ⌝ }
+    ensures { λ r. ⌜ Sought c (now (tables .entry)) (now (tests .entry)) made (r .tries) (r .flips) ⌝ }
     ensures { λ r. ⌜ (length (r .flips .at) ≡ 3) × (r .flips .count ≤ 3) ⌝ }
 {
     let mut tries = made;

@@ -155,8 +155,7 @@ fn search_on(
     ensures { λ r. ⌜ Tried (codeOf c) p (now (s .entry)) r × (r .sure ≡ false → r .tries ≡ 2 ^ p) ⌝ }
 {
     let at = keys.at;
-    let mut tests = [0u64; 64];
-    tests[0] = base;
+    let mut tests = [base; 64];
     let mut o = start;
     let mut to = 1;
     let mut b = 0;

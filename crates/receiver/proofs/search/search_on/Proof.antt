@@ -6,7 +6,7 @@ use native.Mathlib.Omega.{arith}
 use mathlib.Core.Path.{_≡_, refl, ap, sym, subst, _∙_}
 use mathlib.Core.Bool.{false}
 use mathlib.Core.List.{List}
-use lib.ListN.{length, getD, set, replicate}
+use lib.ListN.{length, getD, replicate}
 use lib.Seq.{length-take-le}
 use Rattle.chase.proofs.test_words.Doublings.{Doubled, Holds, size-most}
 use Rattle.chase.proofs.search.Ready.{packedTest, flippedMore, key-below, tests-first, tests-next, tests-small}
@@ -66,8 +66,11 @@ step-at o = step _ _ _ (o .loop-test .taken) (o .before .before .before .before 
 
 -- the test words that flip it too
 more-at : (o : tie.In-loop Inv-loop μ-loop) (new : List ℕ)
-    → Doubled (flippedMore (codeOf (o .before .before .before .before .before .args .c)) (getD (o .before .before .before .before .before .args .keys .at) (o .before .loop .b) 0)) (o .before .loop .to) (o .before .loop .tests) new
-    → (length new ≡ 64) × Holds (packedTest (codeOf (o .before .before .before .before .before .args .c)) (o .before .before .before .before .before .args .p) (o .before .before .before .before .before .args .s .now)) (2 ^ (o .before .loop .b + 1)) new
+    → Doubled (flippedMore (codeOf (o .before .before .before .before .before .args .c))
+    (getD (o .before .before .before .before .before .args .keys .at) (o .before .loop .b) 0)) (o .before .loop .to) (o .before .loop .tests) new
+    → (length new ≡ 64)
+    × Holds (packedTest (codeOf (o .before .before .before .before .before .args .c)) (o .before .before .before .before .before .args .p)
+    (o .before .before .before .before .before .args .s .now)) (2 ^ (o .before .loop .b + 1)) new
 more-at o new d =
     let s = o .before .before .before .before .before in
     let a = s .args in
@@ -87,15 +90,12 @@ not-both a b h e = omega arith
 at-end : (b p : ℕ) → b ≤ p → p ≤ b → b ≡ p
 at-end b p h k = omega arith
 
-array-write-tests : tie.Need-array-write-tests Inv-loop μ-loop
-array-write-tests c = search needs
-
 loop-holds : tie.Need-loop-holds Inv-loop μ-loop
 loop-holds c =
     let s = c .before .before .before in
     let a = s .args in
     let r = s .pre .0 .0 in
-    let tests = set (replicate 64 0) 0 (a .base) in (
+    let tests = replicate 64 (a .base) in (
       omega arith,
       refl,
       refl,
@@ -197,7 +197,6 @@ search-on-spec =
     (tie.spec
     Inv-loop
     μ-loop
-    array-write-tests
     loop-holds
     mul-double
     array-read-double

@@ -22,10 +22,14 @@ abbrev μ-loop : tie.MeasureT-loop
 
 -- the outcome with one candidate more
 after : (c : tie.After-judged Inv-loop μ-loop)
-    → Tried (codeOf (c .before .before .before .before .before .before .before .before .before .before .before .before .before .before .args .c)) (c .before .before .before .before .before .before .before .before .before .before .before .before .before .before .args .p) (c .before .before .before .before .before .before .before .before .before .before .before .before .before .before .args .s .now) (c .judged .result)
+    → Tried (codeOf (c .before .before .before .before .before .before .before .before .before .before .before .before .before .before .args .c))
+    (c .before .before .before .before .before .before .before .before .before .before .before .before .before .before .args .p)
+    (c .before .before .before .before .before .before .before .before .before .before .before .before .before .before .args .s .now) (c .judged .result)
     × (c .judged .result .tries ≡ c .before .before .before .before .before .before .next .result .tries)
-    × (c .before .before .before .before .before .before .before .before .before .loop .o .tries < c .before .before .before .before .before .before .next .result .tries)
-    × (c .before .before .before .before .before .before .next .result .tries ≤ length (c .before .before .before .before .before .before .before .before .before .before .before .before .before .before .args .tests .now))
+    × (c .before .before .before .before .before .before .before .before .before .loop .o .tries
+    < c .before .before .before .before .before .before .next .result .tries)
+    × (c .before .before .before .before .before .before .next .result .tries ≤ length
+    (c .before .before .before .before .before .before .before .before .before .before .before .before .before .before .args .tests .now))
 after c =
     let s = c .before .before .before .before .before .before .before .before .before .before .before .before .before .before in
     let a = s .args in
