@@ -38,13 +38,10 @@ pub fn syndromes(c: Code, tables: &[u32], word: &[u8], shift: u8) -> u32
     requires { ⌜ Fielded c (now tables) × (length (now word) ≡ c .n) × (shift < 8) × Bits (bitsAt shift (now word)) ⌝ }
     ensures { λ r. ⌜ r ≡ syndromesOf (codeOf c) (bitsAt shift (now (word .entry))) ⌝ }
 {
-    let m = c.m;
-    let t = c.t;
-    let from = c.powers;
     let mut acc: u32 = 0;
     let mut i = 0;
     while i < word.len() {
-        acc = acc ^ where_set(word[i] >> shift, tables[from + i]);
+        acc = acc ^ where_set(word[i] >> shift, tables[c.powers + i]);
         i += 1;
     }
     acc

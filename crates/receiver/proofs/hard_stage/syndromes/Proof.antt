@@ -16,11 +16,11 @@ use Rattle.receiver.proofs.hard_stage.syndromes.Statement.{statement}
 use Rattle.receiver.proofs.hard_stage.syndromes.Tie as tie
 
 abbrev Inv-loop : tie.InvT-loop
-Inv-loop tables word shift m t from acc₀ i₀ acc i =
-    (i ≤ length word) × (bitXor acc (sums m t i (drop i (bitsAt shift word))) ≡ sums m t 0 (bitsAt shift word))
+Inv-loop c tables word shift acc₀ i₀ acc i =
+    (i ≤ length word) × (bitXor acc (sums (c .m) (c .t) i (drop i (bitsAt shift word))) ≡ sums (c .m) (c .t) 0 (bitsAt shift word))
 
 abbrev μ-loop : tie.MeasureT-loop
-μ-loop tables word shift m t from acc₀ i₀ acc i = length word - i
+μ-loop c tables word shift acc₀ i₀ acc i = length word - i
 
 loop-holds : tie.Need-loop-holds Inv-loop μ-loop
 loop-holds c = search needs
@@ -33,7 +33,7 @@ shr-where-set c = c .before .before .before .before .before .pre .2
 
 add-where-set : tie.Need-add-where-set Inv-loop μ-loop
 add-where-set c =
-    let m = c .before .before .before .before .before .pre .0 .made in
+    let m = c .before .before .before .before .before .before .pre .0 .made in
     omega (arith, m .is-powers, m .size-most, m .lawful .n-most)
 
 mul-where-set : tie.Need-mul-where-set Inv-loop μ-loop
@@ -41,14 +41,14 @@ mul-where-set c = search needs
 
 shared-slice-read-where-set-2 : tie.Need-shared-slice-read-where-set-2 Inv-loop μ-loop
 shared-slice-read-where-set-2 c =
-    let f = c .before .before .before .before .before .before .pre .0 in
+    let f = c .before .before .before .before .before .before .before .pre .0 in
     omega (arith, f .made .is-powers, f .made .lawful .n-most, f .field .long)
 
 where-set-requires : tie.Need-where-set-requires Inv-loop μ-loop
 where-set-requires c κs =
-    let s = c .before .before .before .before .before .before in
+    let s = c .before .before .before .before .before .before .before in
     let a = s .args in
-    let i = c .before .before .before .loop .i in
+    let i = c .before .before .before .before .loop .i in
     omega (arith, below-at 1 (bitsAt (a .shift) (a .word .now)) i (s .pre .3), bit-at (a .shift) (a .word .now) i)
 
 add-i : tie.Need-add-i Inv-loop μ-loop
@@ -59,11 +59,11 @@ loop-less c = search needs
 
 loop-again : tie.Need-loop-again Inv-loop μ-loop
 loop-again c =
-    let s = c .before .before .before .before .before .before .before in
+    let s = c .before .before .before .before .before .before .before .before in
     let a = s .args in
     let f = s .pre .0 in
     let k = f .made .lawful in
-    let l = c .before .before .before .before .loop in
+    let l = c .before .before .before .before .before .loop in
     let xs = bitsAt (a .shift) (a .word .now) in
     let power = ap (λ (x : ℕ). getD (a .tables .now) (x + l .i) 0) (f .made .is-powers) ∙ f .field .powers (l .i) (omega (arith, k .n-most)) in (
       omega arith,
