@@ -8,14 +8,14 @@
 // A sum of exponents is folded once, and is then at most seven beyond the period: so the first eight entries stand again behind it.
 ghost use mathlib.Core.Path.{_≡_};
 ghost use mathlib.Core.Logic.{_≢_};
-ghost use Prim.Native.Nat.{_+_, _-_, _*_, _%_, _<_, _≤_, _^_};
+ghost use Prim.Native.Nat.{_+_, _-_, _*_, _%_, _<_, _≤_, _^_, min};
 ghost use lib.ListN.{length};
 ghost use Rattle.galois.specs.Field.{alpha, double, poly};
 ghost use Rattle.galois.proofs.FieldTables.{Zeros};
-ghost use Rattle.bch.proofs.tables.CodeTables.{folded, reduced as CodeTables·reduced, logIn, powersIn, rootsIn, PairRoots, TrioRoots};
+ghost use Rattle.bch.proofs.tables.CodeTables.{folded, reduced as CodeTables·reduced, logIn, powersIn, rootsIn};
 ghost use Rattle.bch.proofs.tables.RootFills.{behind as RootFills·behind};
 ghost use Rattle.bch.proofs.tables.TableFills.{FieldPart, stage, Adds};
-ghost use Rattle.bch.proofs.tables.TableLoops.{FieldFilled, RootPart, Rootless};
+ghost use Rattle.bch.proofs.tables.TableLoops.{Again, FieldFilled, PairPart, RootPart, Rootless};
 ghost use Rattle.refusal.specs.Named.{Made};
 ghost use Rattle.receiver.specs.Tables.{Fielded, Filled};
 use refusal::Code;
@@ -90,8 +90,6 @@ fn fill_logs(c: Code, tables: &mut [u32])
     requires { ⌜ Made c × (3 * 2 ^ c .m + 16 ≤ length (now tables)) × Zeros (now tables) ⌝ }
     ensures { λ _. ⌜ FieldPart (c .m) (alpha (c .m)) (2 ^ c .m - 1) (now (tables .exit)) ⌝ }
 {
-    let m = c.m;
-    let g = c.polynomial;
     let period = c.period;
     let powers = c.powers;
     let mut x = 1;
@@ -99,27 +97,27 @@ fn fill_logs(c: Code, tables: &mut [u32])
     while i < period {
         tables[x] = narrow(i);
         tables[powers + i] = narrow(x);
-        x = twice(m, powers, g, x);
+        x = twice(c.m, powers, c.polynomial, x);
         i += 1;
     }
     tables[0] = narrow(period + 8);
 }
 
-// Adds α^(d i), times the scale, to each power i: as many powers as t + 1 says, from as many as t says.
+// Where the code has more than t powers: adds α^(d i), times the scale, to each power i.
 fn add_powers(c: Code, t: usize, d: usize, scale: u32, tables: &mut [u32])
-    requires { ⌜ Made c × Adds (c .m) t d scale × FieldPart (c .m) (stage (c .m) t) (2 ^ c .m - 1) (now tables) ⌝ }
-    ensures { λ _. ⌜ FieldPart (c .m) (stage (c .m) (t + 1)) (2 ^ c .m - 1) (now (tables .exit)) ⌝ }
+    requires { ⌜ Made c × Adds (c .m) t d scale × FieldPart (c .m) (stage (c .m) (min t (c .t))) (2 ^ c .m - 1) (now tables) ⌝ }
+    ensures { λ _. ⌜ FieldPart (c .m) (stage (c .m) (min (t + 1) (c .t))) (2 ^ c .m - 1) (now (tables .exit)) ⌝ }
 {
-    let m = c.m;
+    if c.t <= t {
+        return;
+    }
     let period = c.period;
-    let powers = c.powers;
     let mut e = 0;
     let mut i = 0;
     while i < period {
         while e < period {
-            let x = tables[powers + e] % 1024;
-            let y = tables[powers + i];
-            tables[powers + i] = y + scale * x;
+            let x = tables[c.powers + e] % 1024;
+            tables[c.powers + i] += scale * x;
             e += d;
             i += 1;
         }
@@ -127,54 +125,21 @@ fn add_powers(c: Code, t: usize, d: usize, scale: u32, tables: &mut [u32])
     }
 }
 
-// As many powers as t says, from the first.
-fn fill_powers(c: Code, tables: &mut [u32])
-    requires { ⌜ Made c × FieldPart (c .m) (alpha (c .m)) (2 ^ c .m - 1) (now tables) ⌝ }
-    ensures { λ _. ⌜ FieldPart (c .m) (stage (c .m) (c .t)) (2 ^ c .m - 1) (now (tables .exit)) ⌝ }
-{
-    let t = c.t;
-    if t == 1 {
-        return;
-    }
-    add_powers(c, 1, 3, 1024, tables);
-    if t == 2 {
-        return;
-    }
-    add_powers(c, 2, 5, 1048576, tables);
-}
-
-// The first eight powers again behind the period.
-fn wrap_powers(c: Code, tables: &mut [u32])
-    requires { ⌜ Made c × FieldPart (c .m) (stage (c .m) (c .t)) (2 ^ c .m - 1) (now tables) ⌝ }
-    ensures { λ _. ⌜ FieldFilled (c .m) (c .t) (now (tables .exit)) × Rootless (c .m) (now (tables .exit)) ⌝ }
-{
-    let m = c.m;
-    let t = c.t;
-    let period = c.period;
-    let from = c.powers;
-    let mut i = 0;
-    while i < 8 {
-        let x = tables[from + i];
-        tables[from + period + i] = x;
-        i += 1;
-    }
-}
-
-// For w^2 + w, by its logarithm: the logarithms of w and w + 1.
+// Where t = 2, for w^2 + w, by its logarithm: the logarithms of w and w + 1.
 fn fill_quadratics(c: Code, tables: &mut [u32])
-    requires { ⌜ Made c × FieldFilled (c .m) (c .t) (now tables) × PairRoots (c .m) 2 (rootsIn (c .m) (now tables)) ⌝ }
-    ensures { λ _. ⌜ FieldFilled (c .m) (c .t) (now (tables .exit)) × PairRoots (c .m) (2 ^ c .m) (rootsIn (c .m) (now (tables .exit))) ⌝ }
+    requires { ⌜ Made c × FieldFilled (c .m) (c .t) (now tables) × Rootless (c .m) (now tables) ⌝ }
+    ensures { λ _. ⌜ PairPart (c .m) (c .t) (now (tables .exit)) ⌝ }
 {
-    let m = c.m;
-    let t = c.t;
+    if c.t != 2 {
+        return;
+    }
     let period = c.period;
-    let roots = c.roots;
     let mut w = 2;
     while w < period {
         let a = tables[w];
         let b = tables[w + 1];
         let e = reduced(period, wide(a) + wide(b));
-        tables[roots + e] = a + 1024 * b;
+        tables[c.roots + e] = a + 1024 * b;
         w += 2;
     }
 }
@@ -187,26 +152,23 @@ fn behind(e: usize, d: usize, period: usize) -> usize
     if d <= e { e - d } else { e + period - d }
 }
 
-// For w^3 / (w + 1), by its logarithm: the logarithms of two such w, the last ones.
+// Where t = 3, for w^3 / (w + 1), by its logarithm: the logarithms of two such w, the last ones.
 fn fill_kappas(c: Code, tables: &mut [u32])
-    requires { ⌜ Made c × FieldFilled (c .m) (c .t) (now tables) × TrioRoots (c .m) 1 (rootsIn (c .m) (now tables)) ⌝ }
-    ensures { λ _. ⌜ FieldFilled (c .m) (c .t) (now (tables .exit)) × TrioRoots (c .m) (2 ^ c .m - 1) (rootsIn (c .m) (now (tables .exit))) ⌝ }
+    requires { ⌜ Made c × PairPart (c .m) (c .t) (now tables) ⌝ }
+    ensures { λ _. ⌜ RootPart (c .m) (c .t) (now (tables .exit)) ⌝ }
 {
-    let m = c.m;
-    let t = c.t;
+    if c.t != 3 {
+        return;
+    }
     let period = c.period;
     let powers = c.powers;
-    let roots = c.roots;
     let mut e = 3;
     let mut l = 1;
     while l < period {
         while e < period {
-            let v = tables[powers + l] % 1024 ^ 1;
-            let x = wide(v);
-            let b = wide(tables[x]);
-            let at = roots + behind(e, b, period);
-            let y = tables[at] % 1024;
-            tables[at] = y * 1024 + narrow(l);
+            let x = wide(tables[powers + l] % 1024 ^ 1);
+            let at = c.roots + behind(e, wide(tables[x]), period);
+            tables[at] = tables[at] % 1024 * 1024 + narrow(l);
             e += 3;
             l += 1;
         }
@@ -214,35 +176,14 @@ fn fill_kappas(c: Code, tables: &mut [u32])
     }
 }
 
-// The roots that t asks for.
-fn fill_solutions(c: Code, tables: &mut [u32])
-    requires { ⌜ Made c × FieldFilled (c .m) (c .t) (now tables) × Rootless (c .m) (now tables) ⌝ }
-    ensures { λ _. ⌜ RootPart (c .m) (c .t) 0 (now (tables .exit)) ⌝ }
+// The first eight entries from `from` on again behind the period.
+fn wrap(from: usize, period: usize, tables: &mut [u32])
+    requires { ⌜ (8 ≤ period) × (from + period + 8 ≤ length (now tables)) ⌝ }
+    ensures { λ _. ⌜ Again period from 8 (now (tables .entry)) (now (tables .exit)) ⌝ }
 {
-    let errors = c.t;
-    if errors == 2 {
-        fill_quadratics(c, tables);
-        return;
-    }
-    if errors == 3 {
-        fill_kappas(c, tables);
-        return;
-    }
-}
-
-// The first eight roots again behind the period.
-fn wrap_roots(c: Code, tables: &mut [u32])
-    requires { ⌜ Made c × RootPart (c .m) (c .t) 0 (now tables) ⌝ }
-    ensures { λ _. ⌜ Filled c (now (tables .exit)) ⌝ }
-{
-    let m = c.m;
-    let t = c.t;
-    let period = c.period;
-    let from = c.roots;
     let mut i = 0;
     while i < 8 {
-        let x = tables[from + i];
-        tables[from + period + i] = x;
+        tables[from + period + i] = tables[from + i];
         i += 1;
     }
 }
@@ -253,8 +194,9 @@ pub fn fill_field(c: Code, tables: &mut [u32])
     ensures { λ _. ⌜ Fielded c (now (tables .exit)) × Rootless (c .m) (now (tables .exit)) ⌝ }
 {
     fill_logs(c, tables);
-    fill_powers(c, tables);
-    wrap_powers(c, tables);
+    add_powers(c, 1, 3, 1024, tables);
+    add_powers(c, 2, 5, 1048576, tables);
+    wrap(c.powers, c.period, tables);
 }
 
 // The roots, where the field's tables are filled.
@@ -262,6 +204,7 @@ pub fn fill_roots(c: Code, tables: &mut [u32])
     requires { ⌜ Fielded c (now tables) × Rootless (c .m) (now tables) ⌝ }
     ensures { λ _. ⌜ Filled c (now (tables .exit)) ⌝ }
 {
-    fill_solutions(c, tables);
-    wrap_roots(c, tables);
+    fill_quadratics(c, tables);
+    fill_kappas(c, tables);
+    wrap(c.roots, c.period, tables);
 }

@@ -97,7 +97,7 @@ module _ (m : ℕ) (g : Primitive m) where
         zeros = λ j h. getD-set-other ts 0 j v 0 (λ z. omega (arith, g .room)) ∙ f .zeros j h;
       }
 
--- ---- the powers changed, or one more
+-- ---- the powers changed
 
 -- by another name
 pub part-as : (m : ℕ) (p q : ℕ → ℕ) (count : ℕ) (ts : List ℕ) → ((k : ℕ) → k < count → p k ≡ q k) → FieldPart m p count ts → FieldPart m q count ts
@@ -122,19 +122,6 @@ module _ (m : ℕ) (p : ℕ → ℕ) (count : ℕ) (ts : List ℕ) (f : FieldPar
       go : (k : ℕ) → k < count → Dec (k ≡ j) → powersIn m (set ts (2 ^ m + j) v) k ≡ q k
       go k l (yes z) = rw z (getD-set-same ts (2 ^ m + j) v 0 (omega (arith, f .long)) ∙ e)
       go k l (no n) = getD-set-other ts (2 ^ m + j) (2 ^ m + k) v 0 (λ z. n (omega arith)) ∙ f .powers k l ∙ same k l n
-
-  -- one more
-  pub part-more : (v : ℕ) → v ≡ p count → FieldPart m p (count + 1) (set ts (2 ^ m + count) v)
-  part-more v e =
-      record {
-        long = rw (length-set ts (2 ^ m + count) v) (f .long);
-        logs = λ x n l. low count v x l ∙ f .logs x n l;
-        log-none = low count v 0 room ∙ f .log-none;
-        powers = below-more (λ (k : ℕ). powersIn m (set ts (2 ^ m + count) v) k ≡ p k) count
-            (λ k l. getD-set-other ts (2 ^ m + count) (2 ^ m + k) v 0 (λ z. omega arith) ∙ f .powers k l)
-            (getD-set-same ts (2 ^ m + count) v 0 (omega (arith, f .long)) ∙ e);
-        zeros = λ i l. getD-set-other ts (2 ^ m + count) i v 0 (λ z. omega arith) ∙ f .zeros i (omega arith);
-      }
 
 -- ---- powers added
 

@@ -4,7 +4,7 @@ use Prim.Native.Nat.{ℕ, suc, _+_, _-_, _*_, _%_, _^_, _≤_, _<_}
 use native.Mathlib.Nat.{mul-le-mul, mul-suc, suc-mul, mul-add}
 use native.Mathlib.Numerals.{add-one}
 use native.Mathlib.Omega.{arith}
-use mathlib.Core.Path.{_≡_, sym, ap, ap₂, _∙_, subst}
+use mathlib.Core.Path.{_≡_, refl, sym, ap, ap₂, _∙_, subst, subst₂}
 use mathlib.Core.Logic.{_≢_, _⊎_, inl, inr}
 use mathlib.Core.List.{List}
 use borrow.Author.Count.{below-more}
@@ -15,14 +15,14 @@ use Rattle.galois.specs.Field.{alpha, log}
 use Rattle.galois.specs.Packed.{packed}
 use Rattle.galois.proofs.Tests.{lt-or-le}
 use Rattle.galois.proofs.Xor.{xor-zero→eq}
-use Rattle.galois.proofs.Primitive.{Primitive}
+use Rattle.galois.proofs.Primitive.{Primitive, primitive-5-10}
 use Rattle.galois.proofs.FieldLaws.{alpha-lt, alpha-once, log-lt}
 use Rattle.galois.proofs.FieldTables.{size-least, size-most}
 use Rattle.galois.proofs.Logs.{alpha-periods}
 use Rattle.bch.proofs.tables.Placing.{lowerPart}
 use Rattle.bch.proofs.tables.CodeTables.{CodeTables, PairRoots, TrioRoots, logIn, powersIn, rootsIn, kappaLog, reduced, reduced-small, reduced-large}
 use Rattle.bch.proofs.tables.RootFills.{pairs-same, pairs-more, trios-same, trios-more, behind, kappa-at, kappa-log-lt}
-use Rattle.bch.proofs.tables.TableFills.{FieldPart, part-more, stage, stage-low}
+use Rattle.bch.proofs.tables.TableFills.{FieldPart, stage, stage-low}
 
 -- ---- the exponents d·i, a turn of the period taken off now and then
 
@@ -89,30 +89,47 @@ turn-none p d = record { turns = 0; sum = omega arith }
 pub turn-first : (p d : ℕ) → Turn p d 1 d
 turn-first p d = record { turns = 0; sum = omega arith }
 
--- ---- the powers repeated
+-- ---- entries repeated
 
-module _ (m : ℕ) (g : Primitive m) where
-  power-again : (d i : ℕ) → alpha m (d * i) ≡ alpha m (d * (2 ^ m - 1 + i))
-  power-again d i = sym (alpha-periods m g d (d * i)) ∙ ap (alpha m) (sym (mul-add d (2 ^ m - 1) i))
+-- the first i entries from `from` on stand again p later, and all others are what they were
+pub record Again (p from i : ℕ) (ts us : List ℕ) : Type 0 where
+  pub same-length : length us ≡ length ts
+  pub again : (k : ℕ) → k < i → getD us (from + p + k) 0 ≡ getD ts (from + k) 0
+  pub below : (j : ℕ) → j < from + p → getD us j 0 ≡ getD ts j 0
+  pub beyond : (j : ℕ) → from + p + i ≤ j → getD us j 0 ≡ getD ts j 0
 
-  stage-again : (t i : ℕ) → stage m t i ≡ stage m t (2 ^ m - 1 + i)
-  stage-again t i =
-      ap₂ (λ (x y : ℕ). lowerPart t (packed x y (alpha m (5 * i)))) (power-again 1 i) (power-again 3 i)
-      ∙ ap (λ (z : ℕ). lowerPart t (packed (alpha m (1 * (2 ^ m - 1 + i))) (alpha m (3 * (2 ^ m - 1 + i))) z)) (power-again 5 i)
+module _ (p from : ℕ) (ts : List ℕ) where
+  -- at first
+  pub again-none : Again p from 0 ts ts
+  again-none = record { same-length = refl; again = λ k h. absurd (omega arith); below = λ j h. refl; beyond = λ j h. refl }
 
   -- one entry more
-  pub powers-again : (t i at v : ℕ) (ts : List ℕ) → i < 8 → at ≡ 2 ^ m + (2 ^ m - 1) + i → v ≡ getD ts (2 ^ m + i) 0
-      → FieldPart m (stage m t) (2 ^ m - 1 + i) ts
-      → FieldPart m (stage m t) (2 ^ m - 1 + (i + 1)) (set ts at v)
-  powers-again t i at v ts h ea ev f =
-      let k : 2 ^ m + (2 ^ m - 1) + i ≡ 2 ^ m + (2 ^ m - 1 + i) = omega arith in
-      let c : 2 ^ m - 1 + i + 1 ≡ 2 ^ m - 1 + (i + 1) = omega arith in
-      let e : v ≡ stage m t (2 ^ m - 1 + i) = ev ∙ f .powers i (omega (arith, g .room)) ∙ stage-again t i in
-      rw (ea, k)
-      (subst (λ (n : ℕ). FieldPart m (stage m t) n (set ts (2 ^ m + (2 ^ m - 1 + i)) v)) c
-      (part-more m (stage m t) (2 ^ m - 1 + i) ts f (omega (arith, g .room)) (omega (arith, g .room)) v e))
+  pub again-more : (i : ℕ) (us : List ℕ) → i < p → from + p + i < length ts → Again p from i ts us
+      → Again p from (i + 1) ts (set us (from + p + i) (getD us (from + i) 0))
+  again-more i us h room f =
+      record {
+        same-length = length-set us at v ∙ f .same-length;
+        again = below-more (λ (k : ℕ). getD (set us at v) (from + p + k) 0 ≡ getD ts (from + k) 0) i
+            (λ k l. other (from + p + k) (λ z. omega arith) ∙ f .again k l)
+            (getD-set-same us at v 0 (omega (arith, f .same-length)) ∙ f .below (from + i) (omega arith));
+        below = λ j l. other j (λ z. omega arith) ∙ f .below j l;
+        beyond = λ j l. other j (λ z. omega arith) ∙ f .beyond j (omega arith);
+      }
+    where
+      at : ℕ
+      at = from + p + i
 
--- ---- the roots
+      v : ℕ
+      v = getD us (from + i) 0
+
+      other : (j : ℕ) → j ≢ at → getD (set us at v) j 0 ≡ getD us j 0
+      other j n = getD-set-other us at j v 0 n
+
+-- of equal numbers
+pub again-as : {p q a b i : ℕ} {ts us : List ℕ} → p ≡ q → a ≡ b → Again p a i ts us → Again q b i ts us
+again-as {i = i} {ts = ts} {us = us} e d = subst₂ (λ (x y : ℕ). Again x y i ts us) e d
+
+-- ---- the field's tables
 
 -- the logarithms and the powers are there
 pub record FieldFilled (m t : ℕ) (ts : List ℕ) : Type 0 where
@@ -122,37 +139,63 @@ pub record FieldFilled (m t : ℕ) (ts : List ℕ) : Type 0 where
   pub powers : (i : ℕ) → i < 2 ^ m + 7 → powersIn m ts i ≡ stage m t i
   pub power-none : powersIn m ts (2 ^ m + 7) ≡ 0
 
-pub field-filled : (m t i : ℕ) (ts : List ℕ) → 1 < 2 ^ m → i ≡ 8 → FieldPart m (stage m t) (2 ^ m - 1 + i) ts → FieldFilled m t ts
-field-filled m t i ts room e f =
-    record {
-      long = f .long;
-      logs = f .logs;
-      log-none = f .log-none;
-      powers = λ k h. f .powers k (omega arith);
-      power-none = f .zeros (2 ^ m + (2 ^ m + 7)) (omega arith);
-    }
-
 -- no roots
 abbrev pub Rootless : ℕ → List ℕ → Type 0
 Rootless m ts = (e : ℕ) → rootsIn m ts e ≡ 0
 
--- .. and no roots yet
-pub roots-empty : (m t i : ℕ) (ts : List ℕ) → 1 < 2 ^ m → i ≡ 8 → FieldPart m (stage m t) (2 ^ m - 1 + i) ts → (e : ℕ) → rootsIn m ts e ≡ 0
-roots-empty m t i ts room e f k = f .zeros (2 * 2 ^ m + 8 + k) (omega arith)
+-- the powers, with the first of them repeated, ..
+module _ (m : ℕ) (g : Primitive m) (size : 32 ≤ 2 ^ m) (t : ℕ) (ts us : List ℕ)
+    (f : FieldPart m (stage m t) (2 ^ m - 1) ts) (r : Again (2 ^ m - 1) (2 ^ m) 8 ts us) where
+  -- a period later the same powers
+  power-again : (d i : ℕ) → alpha m (d * i) ≡ alpha m (d * (2 ^ m - 1 + i))
+  power-again d i = sym (alpha-periods m g d (d * i)) ∙ ap (alpha m) (sym (mul-add d (2 ^ m - 1) i))
 
--- a store among the roots leaves them
-pub field-keeps : (m t at v : ℕ) (ts : List ℕ) → 2 * 2 ^ m + 8 ≤ at → FieldFilled m t ts → FieldFilled m t (set ts at v)
-field-keeps m t at v ts h f =
+  stage-again : (i : ℕ) → stage m t i ≡ stage m t (2 ^ m - 1 + i)
+  stage-again i =
+      ap₂ (λ (x y : ℕ). lowerPart t (packed x y (alpha m (5 * i)))) (power-again 1 i) (power-again 3 i)
+      ∙ ap (λ (z : ℕ). lowerPart t (packed (alpha m (1 * (2 ^ m - 1 + i))) (alpha m (3 * (2 ^ m - 1 + i))) z)) (power-again 5 i)
+
+  -- .. fill the field's tables ..
+  pub field-filled : FieldFilled m t us
+  field-filled =
+      record {
+        long = rw (r .same-length) (f .long);
+        logs = λ x n h. r .below x (omega arith) ∙ f .logs x n h;
+        log-none = r .below 0 (omega arith) ∙ f .log-none;
+        powers = λ k h. go k h (lt-or-le k (2 ^ m - 1));
+        power-none = r .beyond (2 ^ m + (2 ^ m + 7)) (omega arith) ∙ f .zeros (2 ^ m + (2 ^ m + 7)) (omega arith);
+      }
+    where
+      go : (k : ℕ) → k < 2 ^ m + 7 → (k < 2 ^ m - 1) ⊎ (2 ^ m - 1 ≤ k) → powersIn m us k ≡ stage m t k
+      go k h (inl l) = r .below (2 ^ m + k) (omega arith) ∙ f .powers k l
+      go k h (inr l) =
+          let i = k - (2 ^ m - 1) in
+          let q : 2 ^ m - 1 + i ≡ k = omega arith in
+          let e : 2 ^ m + k ≡ 2 ^ m + (2 ^ m - 1) + i = omega arith in
+          ap (λ (j : ℕ). getD us j 0) e ∙ r .again i (omega arith) ∙ f .powers i (omega arith) ∙ stage-again i ∙ ap (stage m t) q
+
+  -- .. and leave no roots
+  pub roots-empty : Rootless m us
+  roots-empty e = r .beyond (2 * 2 ^ m + 8 + e) (omega arith) ∙ f .zeros (2 * 2 ^ m + 8 + e) (omega arith)
+
+-- they are in each list with the same entries in front of the roots
+field-same : (m t : ℕ) (ts us : List ℕ) → length us ≡ length ts → ((j : ℕ) → j < 2 * 2 ^ m + 8 → getD us j 0 ≡ getD ts j 0)
+    → FieldFilled m t ts → FieldFilled m t us
+field-same m t ts us n below f =
     record {
-      long = rw (length-set ts at v) (f .long);
+      long = rw n (f .long);
       logs = λ x n l. below x (omega arith) ∙ f .logs x n l;
       log-none = below 0 (omega arith) ∙ f .log-none;
       powers = λ i l. below (2 ^ m + i) (omega arith) ∙ f .powers i l;
       power-none = below (2 ^ m + (2 ^ m + 7)) (omega arith) ∙ f .power-none;
     }
-  where
-    below : (j : ℕ) → j < 2 * 2 ^ m + 8 → getD (set ts at v) j 0 ≡ getD ts j 0
-    below j l = getD-set-other ts at j v 0 (λ z. omega arith)
+
+-- ---- the roots
+
+-- a store among the roots leaves the field's tables
+field-keeps : (m t at v : ℕ) (ts : List ℕ) → 2 * 2 ^ m + 8 ≤ at → FieldFilled m t ts → FieldFilled m t (set ts at v)
+field-keeps m t at v ts h f =
+    field-same m t ts (set ts at v) (length-set ts at v) (λ j l. getD-set-other ts at j v 0 (λ z. omega arith)) f
 
 -- the roots after a store
 module _ (m e v : ℕ) (ts : List ℕ) where
@@ -274,63 +317,49 @@ module _ (m : ℕ) (g : Primitive m) (size : 2 ^ m ≤ 1024) (t : ℕ) (ts : Lis
           trios-more m g size l least h (rootsIn m ts) (rootsIn m (set ts (2 * 2 ^ m + 8 + B) v)) old
           (roots-new m B v ts (omega (arith, low)) (f .long) ∙ is-v) (λ k b n. roots-old m B v ts k n)
 
--- ---- the roots repeated
+-- ---- the roots that t asks for, and the first of them repeated
 
--- all roots are there, and the first i of them again behind the period
-pub record RootPart (m t i : ℕ) (ts : List ℕ) : Type 0 where
+-- the field's tables and the roots of t = 2, none for another t
+pub record PairPart (m t : ℕ) (ts : List ℕ) : Type 0 where
+  pub field : FieldFilled m t ts
+  pub pairs : t ≡ 2 → PairRoots m (2 ^ m) (rootsIn m ts)
+  pub none : t ≢ 2 → Rootless m ts
+
+-- the field's tables and the roots that t asks for
+pub record RootPart (m t : ℕ) (ts : List ℕ) : Type 0 where
   pub field : FieldFilled m t ts
   pub pairs : t ≡ 2 → PairRoots m (2 ^ m) (rootsIn m ts)
   pub trios : t ≡ 3 → TrioRoots m (2 ^ m - 1) (rootsIn m ts)
-  pub again : (k : ℕ) → k < i → rootsIn m ts (2 ^ m - 1 + k) ≡ rootsIn m ts k
 
--- at first
-pub roots-once : (m t : ℕ) (ts : List ℕ) → FieldFilled m t ts → (t ≡ 2 → PairRoots m (2 ^ m) (rootsIn m ts)) → (t ≡ 3 → TrioRoots m (2 ^ m - 1) (rootsIn m ts))
-    → RootPart m t 0 ts
-roots-once m t ts f p q = record { field = f; pairs = p; trios = q; again = λ k h. absurd (omega arith) }
+module _ (m t : ℕ) (ts us : List ℕ) (f : RootPart m t ts) (r : Again (2 ^ m - 1) (2 * 2 ^ m + 8) 8 ts us) where
+  -- the field's tables stay ..
+  pub field-stays : FieldFilled m t us
+  field-stays = field-same m t ts us (r .same-length) (λ j l. r .below j (omega arith)) (f .field)
 
--- one entry more
-pub roots-again : (m : ℕ) → Primitive m → 32 ≤ 2 ^ m → (t i at v : ℕ) (ts : List ℕ) → i < 8 → at ≡ 2 * 2 ^ m + 8 + (2 ^ m - 1) + i
-    → v ≡ getD ts (2 * 2 ^ m + 8 + i) 0
-    → RootPart m t i ts → RootPart m t (i + 1) (set ts at v)
-roots-again m g size t i at v ts h ea ev f =
-    subst (λ (j : ℕ). RootPart m t (i + 1) (set ts j v)) (sym (ea ∙ flat))
-    (record {
-      field = field-keeps m t (2 * 2 ^ m + 8 + e) v ts (omega arith) (f .field);
-      pairs = λ z. pairs-same m (2 ^ m) g (omega arith) (rootsIn m ts) R same (f .pairs z);
-      trios = λ z. trios-same m g (2 ^ m - 1) (omega arith) (rootsIn m ts) R same (f .trios z);
-      again = below-more (λ (k : ℕ). R (2 ^ m - 1 + k) ≡ R k) i
-          (λ k l. roots-old m e v ts (2 ^ m - 1 + k) (λ z. omega arith) ∙ f .again k l ∙ sym (same k (omega arith)))
-          (roots-new m e v ts (omega arith) (f .field .long) ∙ ev ∙ sym (same i (omega arith)));
-    })
-  where
-    e : ℕ
-    e = 2 ^ m - 1 + i
+  -- .. and all is filled
+  pub code-filled : 5 ≤ m → m ≤ 10 → 1 ≤ t → t ≤ 3 → CodeTables m t us
+  code-filled least most tl tu =
+      record {
+        least = least;
+        most = most;
+        size-least = size-least m least;
+        size-most = size-most m most;
+        t-least = tl;
+        t-most = tu;
+        long = field-stays .long;
+        logs = field-stays .logs;
+        log-none = field-stays .log-none;
+        powers = field-stays .powers;
+        power-none = field-stays .power-none;
+        again = λ k h.
+            let e : 2 * 2 ^ m + 8 + (2 ^ m - 1 + k) ≡ 2 * 2 ^ m + 8 + (2 ^ m - 1) + k = omega arith in
+            ap (λ (j : ℕ). getD us j 0) e ∙ r .again k h ∙ sym (same k (omega (arith, size-least m least)));
+        pairs = λ z. pairs-same m (2 ^ m) g (omega arith) (rootsIn m ts) (rootsIn m us) same (f .pairs z);
+        trios = λ z. trios-same m g (2 ^ m - 1) (omega arith) (rootsIn m ts) (rootsIn m us) same (f .trios z);
+      }
+    where
+      g : Primitive m
+      g = primitive-5-10 m least most
 
-    flat : 2 * 2 ^ m + 8 + (2 ^ m - 1) + i ≡ 2 * 2 ^ m + 8 + e
-    flat = omega arith
-
-    R : ℕ → ℕ
-    R = rootsIn m (set ts (2 * 2 ^ m + 8 + e) v)
-
-    same : (k : ℕ) → k < 2 ^ m - 1 → R k ≡ rootsIn m ts k
-    same k l = roots-old m e v ts k (λ z. omega arith)
-
--- and all is filled
-pub code-filled : (m t i : ℕ) (ts : List ℕ) → 5 ≤ m → m ≤ 10 → 1 ≤ t → t ≤ 3 → i ≡ 8 → RootPart m t i ts → CodeTables m t ts
-code-filled m t i ts least most tl tu e f =
-    record {
-      least = least;
-      most = most;
-      size-least = size-least m least;
-      size-most = size-most m most;
-      t-least = tl;
-      t-most = tu;
-      long = f .field .long;
-      logs = f .field .logs;
-      log-none = f .field .log-none;
-      powers = f .field .powers;
-      power-none = f .field .power-none;
-      again = λ k h. f .again k (omega arith);
-      pairs = f .pairs;
-      trios = f .trios;
-    }
+      same : (k : ℕ) → k < 2 ^ m - 1 → rootsIn m us k ≡ rootsIn m ts k
+      same k l = r .below (2 * 2 ^ m + 8 + k) (omega arith)

@@ -17,12 +17,20 @@ use Rattle.bch.proofs.tables.CodeTables.{CodeTables, PairRoots, TrioRoo
 use Rattle.bch.proofs.tables.RootFills.{pairs-none, trios-none, behind}
 use Rattle.bch.proofs.tables.TableFills.{LogPart, FieldPart, logs-none, logs-more, logs-all, part-as, mixed, mixed-none, mixed-more, mixed-all}
 use Rattle.bch.proofs.tables.TableFills.{stage, stage-one, stage-two, stage-three, stage-low}
-use Rattle.bch.proofs.tables.TableLoops.{FieldFilled, RootPart, powers-again, field-filled, roots-empty, pairs-step, trios-step, roots-once}
-use Rattle.bch.proofs.tables.TableLoops.{roots-again, code-filled}
+use Rattle.bch.proofs.tables.TableLoops.{FieldFilled, RootPart, Rootless, Again, again-none, again-more, field-filled, roots-empty}
+use Rattle.bch.proofs.tables.TableLoops.{pairs-step, trios-step, code-filled}
 
 empty-long : (n : ℕ) → n ≤ length {A = ℕ} (replicate n 0)
 empty-long zero = omega arith
 empty-long (suc n) = omega (arith, empty-long n)
+
+-- a list with entries repeated
+again-to : (p from n : ℕ) (ts : List ℕ) → n ≤ p → from + p + n ≤ length ts → (us : List ℕ) × Again p from n ts us
+again-to p from zero ts h l = (ts, again-none p from ts)
+again-to p from (suc i) ts h l =
+    let (us, f) = again-to p from i ts (omega arith) (omega arith) in
+    let vs = set us (from + p + i) (getD us (from + i) 0) in
+    (vs, subst (λ (j : ℕ). Again p from j ts vs) (add-one i) (again-more p from ts i us h (omega arith) f))
 
 module _ (m : ℕ) (least : 5 ≤ m) (most : m ≤ 10) where
   abbrev g : Primitive m
@@ -87,21 +95,11 @@ module _ (m : ℕ) (least : 5 ≤ m) (most : m ≤ 10) where
   stage-to (suc (suc (suc (suc t)))) l u = absurd (omega arith)
 
   module _ (t : ℕ) (tl : 1 ≤ t) (tu : t ≤ 3) where
-    powers-to : (i : ℕ) → i ≤ 8 → (ts : List ℕ) × FieldPart m (stage m t) (2 ^ m - 1 + i) ts
-    powers-to zero h =
-        let (ts, f) = stage-to t tl tu in
-        let k : 2 ^ m - 1 ≡ 2 ^ m - 1 + 0 = omega arith in
-        (ts, subst (λ (j : ℕ). FieldPart m (stage m t) j ts) k f)
-    powers-to (suc i) h =
-        let (ts, f) = powers-to i (omega arith) in
-        let k : 2 ^ m - 1 + (i + 1) ≡ 2 ^ m - 1 + suc i = omega arith in
-        let us = set ts (2 ^ m + (2 ^ m - 1) + i) (getD ts (2 ^ m + i) 0) in
-        (us, subst (λ (j : ℕ). FieldPart m (stage m t) j us) k (powers-again m g t i (2 ^ m + (2 ^ m - 1) + i) (getD ts (2 ^ m + i) 0) ts h refl refl f))
-
-    field-to : (ts : List ℕ) × FieldFilled m t ts × ((e : ℕ) → rootsIn m ts e ≡ 0)
+    field-to : (ts : List ℕ) × FieldFilled m t ts × Rootless m ts
     field-to =
-        let (ts, f) = powers-to 8 (omega arith) in
-        (ts, field-filled m t 8 ts (omega (arith, size)) refl f, roots-empty m t 8 ts (omega (arith, size)) refl f)
+        let (ts, f) = stage-to t tl tu in
+        let (us, r) = again-to p (2 ^ m) 8 ts (omega (arith, size)) (omega (arith, f .long)) in
+        (us, field-filled m g size t ts us f r, roots-empty m g size t ts us f r)
 
     pairs-to : (i : ℕ) → 2 * i + 2 ≤ 2 ^ m → (ts : List ℕ) × FieldFilled m t ts × PairRoots m (2 * i + 2) (rootsIn m ts)
     pairs-to zero h = let (ts, f, z) = field-to in (ts, f, pairs-none m (rootsIn m ts) (λ k l. z k))
@@ -133,28 +131,25 @@ module _ (m : ℕ) (least : 5 ≤ m) (most : m ≤ 10) where
         (alpha-mod m g (3 * l)) refl refl refl refl q in
         (set ts at v, f′, subst (λ (j : ℕ). TrioRoots m j (rootsIn m (set ts at v))) k q′)
 
-    roots-to : (ts : List ℕ) × RootPart m t 0 ts
+    roots-to : (ts : List ℕ) × RootPart m t ts
     roots-to = go (ℕ-discrete t 2) (ℕ-discrete t 3)
       where
-        go : Dec (t ≡ 2) → Dec (t ≡ 3) → (ts : List ℕ) × RootPart m t 0 ts
+        go : Dec (t ≡ 2) → Dec (t ≡ 3) → (ts : List ℕ) × RootPart m t ts
         go (yes e) d =
             let h : 2 * (2 ^ m / 2 - 1) + 2 ≡ 2 ^ m = omega (arith, even-size m (omega arith), size) in
             let (ts, f, q) = pairs-to (2 ^ m / 2 - 1) (omega arith) in
-            (ts, roots-once m t ts f (λ z. subst (λ (j : ℕ). PairRoots m j (rootsIn m ts)) h q) (λ z. absurd (omega arith)))
+            let pairs = subst (λ (j : ℕ). PairRoots m j (rootsIn m ts)) h q in
+            (ts, record { field = f; pairs = λ z. pairs; trios = λ z. absurd (omega arith) })
         go (no n) (yes e) =
             let h : 2 ^ m - 2 + 1 ≡ 2 ^ m - 1 = omega (arith, size) in
             let (ts, f, q) = trios-to (2 ^ m - 2) (omega arith) in
-            (ts, roots-once m t ts f (λ z. absurd (n z)) (λ z. subst (λ (j : ℕ). TrioRoots m j (rootsIn m ts)) h q))
-        go (no n) (no o) = let (ts, f, z) = field-to in (ts, roots-once m t ts f (λ z. absurd (n z)) (λ z. absurd (o z)))
-
-    again-to : (i : ℕ) → i ≤ 8 → (ts : List ℕ) × RootPart m t i ts
-    again-to zero h = roots-to
-    again-to (suc i) h =
-        let (ts, f) = again-to i (omega arith) in
-        let at = 2 * 2 ^ m + 8 + (2 ^ m - 1) + i in
-        let v = getD ts (2 * 2 ^ m + 8 + i) 0 in
-        (set ts at v, subst (λ (j : ℕ). RootPart m t j (set ts at v)) (add-one i) (roots-again m g size t i at v ts h refl refl f))
+            let trios = subst (λ (j : ℕ). TrioRoots m j (rootsIn m ts)) h q in
+            (ts, record { field = f; pairs = λ z. absurd (n z); trios = λ z. trios })
+        go (no n) (no o) = let (ts, f, z) = field-to in (ts, record { field = f; pairs = λ z. absurd (n z); trios = λ z. absurd (o z) })
 
     -- there are such tables
     pub code-tables-there : (ts : List ℕ) × CodeTables m t ts
-    code-tables-there = let (ts, f) = again-to 8 (omega arith) in (ts, code-filled m t 8 ts least most tl tu refl f)
+    code-tables-there =
+        let (ts, f) = roots-to in
+        let (us, r) = again-to p (2 * 2 ^ m + 8) 8 ts (omega (arith, size)) (omega (arith, f .field .long)) in
+        (us, code-filled m t ts us f r least most tl tu)

@@ -1,5 +1,5 @@
 -- Below i the powers hold what is added, from i on what they held; e is d i less whole periods. Assumes nothing.
-use Prim.Native.Nat.{ℕ, _+_, _-_, _*_, _%_, _^_, _≤_, _<_}
+use Prim.Native.Nat.{ℕ, _+_, _-_, _*_, _%_, _^_, _≤_, _<_, min}
 use mathlib.Core.Path.{_≡_, refl, ap, subst, sym, _∙_}
 use mathlib.Core.Logic.{_⊎_, inl, inr}
 use native.Mathlib.Nat.{mul-le-mul, le-refl}
@@ -16,28 +16,28 @@ use Rattle.receiver.proofs.tables.add_powers.Statement.{statement}
 use Rattle.receiver.proofs.tables.add_powers.Tie as tie
 
 abbrev Inv-loop2 : tie.InvT-loop2
-Inv-loop2 t d scale tables₀ m period powers e₀ i₀ tables e i =
-    (i ≤ 2 ^ m - 1)
+Inv-loop2 c t d scale tables₀ period e₀ i₀ tables e i =
+    (i ≤ 2 ^ c .m - 1)
     × (i₀ ≤ i)
-    × (e < 2 ^ m - 1 + d)
+    × (e < 2 ^ c .m - 1 + d)
     × ((i₀ < i) ⊎ (e ≤ d))
     × (length tables ≡ length tables₀)
-    × TurnIn (2 ^ m - 1) d i e
-    × FieldPart m (mixed (stage m t) (stage m (t + 1)) i) (2 ^ m - 1) tables
+    × TurnIn (2 ^ c .m - 1) d i e
+    × FieldPart (c .m) (mixed (stage (c .m) t) (stage (c .m) (t + 1)) i) (2 ^ c .m - 1) tables
 
 abbrev μ-loop2 : tie.MeasureT-loop2
-μ-loop2 t d scale tables₀ m period powers e₀ i₀ tables e i = 2 ^ m - 1 - i
+μ-loop2 c t d scale tables₀ period e₀ i₀ tables e i = 2 ^ c .m - 1 - i
 
 abbrev Inv-loop : tie.InvT-loop
-Inv-loop t d scale tables₀ m period powers e₀ i₀ tables e i =
-    (i ≤ 2 ^ m - 1)
+Inv-loop c t d scale tables₀ period e₀ i₀ tables e i =
+    (i ≤ 2 ^ c .m - 1)
     × (e ≤ d)
     × (length tables ≡ length tables₀)
-    × Turn (2 ^ m - 1) d i e
-    × FieldPart m (mixed (stage m t) (stage m (t + 1)) i) (2 ^ m - 1) tables
+    × Turn (2 ^ c .m - 1) d i e
+    × FieldPart (c .m) (mixed (stage (c .m) t) (stage (c .m) (t + 1)) i) (2 ^ c .m - 1) tables
 
 abbrev μ-loop : tie.MeasureT-loop
-μ-loop t d scale tables₀ m period powers e₀ i₀ tables e i = 2 ^ m - 1 - i
+μ-loop c t d scale tables₀ period e₀ i₀ tables e i = 2 ^ c .m - 1 - i
 
 -- ---- what is added fits
 
@@ -68,29 +68,30 @@ stages t l u = (omega arith, omega arith, omega arith)
 
 module _
     (o : tie.At-loop2 Inv-loop2 μ-loop2 Inv-loop μ-loop)
-    (h : o .loop2 .e < o .before .before .before .args .c .period) where
-  g : Primitive (o .before .before .before .args .c .m)
-  g = let k = o .before .before .before .pre .0 .lawful in primitive-5-10 _ (k .m-least) (k .m-most)
+    (h : o .loop2 .e < o .before .before .before .before .before .args .c .period) where
+  g : Primitive (o .before .before .before .before .before .args .c .m)
+  g = let k = o .before .before .before .before .before .pre .0 .lawful in primitive-5-10 _ (k .m-least) (k .m-most)
 
-  e-lt : o .loop2 .e < 2 ^ o .before .before .before .args .c .m - 1
-  e-lt = subst (λ (p : ℕ). o .loop2 .e < p) (o .before .before .before .pre .0 .is-period) h
+  e-lt : o .loop2 .e < 2 ^ o .before .before .before .before .before .args .c .m - 1
+  e-lt = subst (λ (p : ℕ). o .loop2 .e < p) (o .before .before .before .before .before .pre .0 .is-period) h
 
-  i-lt : o .loop2 .i < 2 ^ o .before .before .before .args .c .m - 1
-  i-lt = turn-inside _ (o .before .before .before .args .d) (o .loop2 .i) (o .loop2 .e) e-lt (o .loop2 .inv .5)
+  i-lt : o .loop2 .i < 2 ^ o .before .before .before .before .before .args .c .m - 1
+  i-lt = turn-inside _ (o .before .before .before .before .before .args .d) (o .loop2 .i) (o .loop2 .e) e-lt (o .loop2 .inv .5)
 
-  i-at : o .before .before .before .args .c .powers + o .loop2 .i < length (o .loop2 .tables)
-  i-at = power-at _ _ _ _ (o .before .before .before .pre .0 .is-powers) i-lt (o .loop2 .inv .6 .long)
+  i-at : o .before .before .before .before .before .args .c .powers + o .loop2 .i < length (o .loop2 .tables)
+  i-at = power-at _ _ _ _ (o .before .before .before .before .before .pre .0 .is-powers) i-lt (o .loop2 .inv .6 .long)
 
-  i-scaled : Fits w64 ((o .before .before .before .args .c .powers + o .loop2 .i) * 4)
-  i-scaled = let k = o .before .before .before .pre .0 in power-scaled _ _ _ (k .size-most) (k .is-powers) (near _ _ i-lt)
+  i-scaled : Fits w64 ((o .before .before .before .before .before .args .c .powers + o .loop2 .i) * 4)
+  i-scaled = let k = o .before .before .before .before .before .pre .0 in power-scaled _ _ _ (k .size-most) (k .is-powers) (near _ _ i-lt)
 
-  i-fits : Fits w64 (o .before .before .before .args .c .powers + o .loop2 .i)
-  i-fits = let k = o .before .before .before .pre .0 in power-fits _ _ _ (k .size-most) (k .is-powers) (near _ _ i-lt)
+  i-fits : Fits w64 (o .before .before .before .before .before .args .c .powers + o .loop2 .i)
+  i-fits = let k = o .before .before .before .before .before .pre .0 in power-fits _ _ _ (k .size-most) (k .is-powers) (near _ _ i-lt)
 
   -- the entry at i still holds what it held, which is below the scale
-  entry-lt : getD (o .loop2 .tables) (o .before .before .before .args .c .powers + o .loop2 .i) 0 < o .before .before .before .args .scale
+  entry-lt : getD (o .loop2 .tables) (o .before .before .before .before .before .args .c .powers + o .loop2 .i) 0
+      < o .before .before .before .before .before .args .scale
   entry-lt =
-      let s = o .before .before .before in
+      let s = o .before .before .before .before .before in
       let a = s .args in
       let m = a .c .m in
       let l = o .loop2 in
@@ -100,16 +101,27 @@ module _
       ∙ mixed-here m (stage m (a .t)) (stage m (a .t + 1)) (l .tables) (l .i) i-lt (l .inv .6)))
       (s .pre .1 .low (l .i))
 
+returns : tie.Need-returns Inv-loop2 μ-loop2 Inv-loop μ-loop
+returns c =
+    let s = c .before .before in
+    let a = s .args in
+    let m = a .c .m in
+    let all : min (a .t) (a .c .t) ≡ min (a .t + 1) (a .c .t) = omega (arith, c .if1 .taken) in
+    subst (λ (t : ℕ). FieldPart m (stage m t) (2 ^ m - 1) (a .tables .now)) all (s .pre .2)
+
 loop-holds : tie.Need-loop-holds Inv-loop2 μ-loop2 Inv-loop μ-loop
 loop-holds c =
-    let a = c .args in
+    let s = c .before .before in
+    let a = s .args in
     let m = a .c .m in
-    let none = mixed-none m (stage m (a .t)) (stage m (a .t + 1)) (a .tables .now) (c .pre .2) in
+    let few : min (a .t) (a .c .t) ≡ a .t = omega (arith, c .if1 .left) in
+    let f = subst (λ (t : ℕ). FieldPart m (stage m t) (2 ^ m - 1) (a .tables .now)) few (s .pre .2) in
+    let none = mixed-none m (stage m (a .t)) (stage m (a .t + 1)) (a .tables .now) f in
     (omega arith, omega arith, refl, turn-none (2 ^ m - 1) (a .d), none)
 
 loop2-holds : tie.Need-loop2-holds Inv-loop2 μ-loop2 Inv-loop μ-loop
 loop2-holds c =
-    let s = c .before .before in
+    let s = c .before .before .before .before in
     let l = c .before .loop in
     let u = s .pre .1 .d-least in
     let h : l .i < 2 ^ s .args .c .m - 1 = subst (λ (p : ℕ). l .i < p) (s .pre .0 .is-period) (c .loop-test .taken) in
@@ -117,70 +129,64 @@ loop2-holds c =
 
 add-x : tie.Need-add-x Inv-loop2 μ-loop2 Inv-loop μ-loop
 add-x c =
-    let k = c .before .before .before .before .pre .0 in
-    power-fits _ _ _ (k .size-most) (k .is-powers) (near _ _ (e-lt (c .before) (c .loop2-test .taken)))
+    let k = c .before .before .before .before .before .before .before .pre .0 in
+    power-fits _ _ _ (k .size-most) (k .is-powers) (near _ _ (e-lt (c .before .before) (c .before .loop2-test .taken)))
 
 mul-x : tie.Need-mul-x Inv-loop2 μ-loop2 Inv-loop μ-loop
 mul-x c =
-    let k = c .before .before .before .before .pre .0 in
-    power-scaled _ _ _ (k .size-most) (k .is-powers) (near _ _ (e-lt (c .before) (c .loop2-test .taken)))
+    let k = c .before .before .before .before .before .before .before .pre .0 in
+    power-scaled _ _ _ (k .size-most) (k .is-powers) (near _ _ (e-lt (c .before .before) (c .before .loop2-test .taken)))
 
 slice-read-x : tie.Need-slice-read-x Inv-loop2 μ-loop2 Inv-loop μ-loop
 slice-read-x c =
-    let o = c .before .before in
-    power-at _ _ _ _ (o .before .before .before .pre .0 .is-powers) (e-lt o (c .before .loop2-test .taken)) (o .loop2 .inv .6 .long)
-
-add-y : tie.Need-add-y Inv-loop2 μ-loop2 Inv-loop μ-loop
-add-y c = i-fits (c .before .before) (c .before .loop2-test .taken)
-
-mul-y : tie.Need-mul-y Inv-loop2 μ-loop2 Inv-loop μ-loop
-mul-y c = i-scaled (c .before .before) (c .before .loop2-test .taken)
-
-slice-read-y : tie.Need-slice-read-y Inv-loop2 μ-loop2 Inv-loop μ-loop
-slice-read-y c = i-at (c .before .before .before) (c .before .before .loop2-test .taken)
+    let o = c .before .before .before in
+    power-at _ _ _ _ (o .before .before .before .before .before .pre .0 .is-powers) (e-lt o (c .before .before .loop2-test .taken)) (o .loop2 .inv .6 .long)
 
 mul-tables : tie.Need-mul-tables Inv-loop2 μ-loop2 Inv-loop μ-loop
-mul-tables c = product-fits _ _ (c .before .before .before .before .before .before .pre .1 .room)
+mul-tables c = product-fits _ _ (c .before .before .before .before .before .before .before .before .pre .1 .room)
 
 add-tables : tie.Need-add-tables Inv-loop2 μ-loop2 Inv-loop μ-loop
-add-tables c =
-    let o = c .before .before .before in
-    sum-fits _ _ _ (entry-lt o (c .before .before .loop2-test .taken)) (o .before .before .before .pre .1 .room)
-
-add-tables-2 : tie.Need-add-tables-2 Inv-loop2 μ-loop2 Inv-loop μ-loop
-add-tables-2 c = i-fits (c .before .before .before) (c .before .before .loop2-test .taken)
+add-tables c = i-fits (c .before .before .before .before) (c .before .before .before .loop2-test .taken)
 
 mul-tables-2 : tie.Need-mul-tables-2 Inv-loop2 μ-loop2 Inv-loop μ-loop
-mul-tables-2 c = i-scaled (c .before .before .before) (c .before .before .loop2-test .taken)
+mul-tables-2 c = i-scaled (c .before .before .before .before) (c .before .before .before .loop2-test .taken)
+
+slice-read-tables : tie.Need-slice-read-tables Inv-loop2 μ-loop2 Inv-loop μ-loop
+slice-read-tables c = i-at (c .before .before .before .before .before) (c .before .before .before .before .loop2-test .taken)
+
+add-tables-2 : tie.Need-add-tables-2 Inv-loop2 μ-loop2 Inv-loop μ-loop
+add-tables-2 c =
+    let o = c .before .before .before .before .before in
+    sum-fits _ _ _ (entry-lt o (c .before .before .before .before .loop2-test .taken)) (o .before .before .before .before .before .pre .1 .room)
 
 slice-write-tables : tie.Need-slice-write-tables Inv-loop2 μ-loop2 Inv-loop μ-loop
-slice-write-tables c = i-at (c .before .before .before) (c .before .before .loop2-test .taken)
+slice-write-tables c = i-at (c .before .before .before .before .before) (c .before .before .before .before .loop2-test .taken)
 
 add-e : tie.Need-add-e Inv-loop2 μ-loop2 Inv-loop μ-loop
 add-e c =
-    let o = c .before .before .before in
-    let s = o .before .before .before in
-    let h = e-lt o (c .before .before .loop2-test .taken) in
+    let o = c .before .before .before .before .before in
+    let s = o .before .before .before .before .before in
+    let h = e-lt o (c .before .before .before .before .loop2-test .taken) in
     step-fits _ _ _ (s .pre .0 .size-most) (near _ _ h) (few _ (s .pre .1 .d-most))
 
 add-i : tie.Need-add-i Inv-loop2 μ-loop2 Inv-loop μ-loop
 add-i c =
-    let o = c .before .before .before in
-    let h = i-lt o (c .before .before .loop2-test .taken) in
-    step-fits _ _ 1 (o .before .before .before .pre .0 .size-most) (near _ _ h) (omega arith)
+    let o = c .before .before .before .before .before in
+    let h = i-lt o (c .before .before .before .before .loop2-test .taken) in
+    step-fits _ _ 1 (o .before .before .before .before .before .pre .0 .size-most) (near _ _ h) (omega arith)
 
 loop2-less : tie.Need-loop2-less Inv-loop2 μ-loop2 Inv-loop μ-loop
-loop2-less c = falls _ _ (i-lt (c .before .before .before) (c .before .before .loop2-test .taken))
+loop2-less c = falls _ _ (i-lt (c .before .before .before .before .before) (c .before .before .before .before .loop2-test .taken))
 
 loop2-again : tie.Need-loop2-again Inv-loop2 μ-loop2 Inv-loop μ-loop
 loop2-again c =
-    let o = c .before .before .before in
-    let s = o .before .before .before in
+    let o = c .before .before .before .before .before in
+    let s = o .before .before .before .before .before in
     let a = s .args in
     let m = a .c .m in
     let l = o .loop2 in
     let u = s .pre .1 in
-    let h = c .before .before .loop2-test .taken in
+    let h = c .before .before .before .before .loop2-test .taken in
     let low : (v : ℕ) → 1 ≤ v → v ≤ 3 → (j : ℕ) → j < 2 ^ m - 1 → stage m v j % 1024 ≡ alpha m j =
     λ v x y j z. stage-low m (g o h) (s .pre .0 .lawful .m-most) j v x y in
     let same-turn = turn-power m (g o h) (a .d) (l .i) (l .e) (record { turns = l .inv .5 .turns; sum = l .inv .5 .sum }) in
@@ -203,14 +209,14 @@ loop2-again c =
 
 loop-less : tie.Need-loop-less Inv-loop2 μ-loop2 Inv-loop μ-loop
 loop-less c =
-    let s = c .before .before .before .before in
+    let s = c .before .before .before .before .before .before in
     let k = s .pre .0 in
     let d = steps _ _ (s .pre .1 .d-most) (k .size-least) in
     fell _ _ _ _ _ _ (k .is-period) d (c .before .before .loop-test .taken) (c .loop2-test .left) (c .before .loop2 .inv .3)
 
 loop-again : tie.Need-loop-again Inv-loop2 μ-loop2 Inv-loop μ-loop
 loop-again c =
-    let s = c .before .before .before .before in
+    let s = c .before .before .before .before .before .before in
     let l = c .before .loop2 in
     let d = s .args .d in
     let p = s .pre .0 .is-period in
@@ -226,16 +232,18 @@ loop-again c =
 same-length : tie.Need-same-length Inv-loop2 μ-loop2 Inv-loop μ-loop
 same-length c = c .before .loop .inv .2
 
-returns : tie.Need-returns Inv-loop2 μ-loop2 Inv-loop μ-loop
-returns c =
-    let s = c .before .before in
+returns-2 : tie.Need-returns-2 Inv-loop2 μ-loop2 Inv-loop μ-loop
+returns-2 c =
+    let s = c .before .before .before .before in
     let a = s .args in
     let m = a .c .m in
     let l = c .before .loop in
     let end = ended _ _ _ (s .pre .0 .is-period) (c .loop-test .left) (l .inv .0) in
     let f = stage m (a .t) in
     let f′ = stage m (a .t + 1) in
-    mixed-all m f f′ (l .tables) (subst (λ (i : ℕ). FieldPart m (mixed f f′ i) (2 ^ m - 1) (l .tables)) end (l .inv .4))
+    let more : a .t + 1 ≡ min (a .t + 1) (a .c .t) = omega (arith, c .before .before .if1 .left) in
+    subst (λ (t : ℕ). FieldPart m (stage m t) (2 ^ m - 1) (l .tables)) more
+    (mixed-all m f f′ (l .tables) (subst (λ (i : ℕ). FieldPart m (mixed f f′ i) (2 ^ m - 1) (l .tables)) end (l .inv .4)))
 
 pub add-powers-spec : {M : Type 1} → statement M
 add-powers-spec =
@@ -245,18 +253,17 @@ add-powers-spec =
     μ-loop2
     Inv-loop
     μ-loop
+    returns
     loop-holds
     loop2-holds
     add-x
     mul-x
     slice-read-x
-    add-y
-    mul-y
-    slice-read-y
     mul-tables
     add-tables
-    add-tables-2
     mul-tables-2
+    slice-read-tables
+    add-tables-2
     slice-write-tables
     add-e
     add-i
@@ -265,4 +272,4 @@ add-powers-spec =
     loop-less
     loop-again
     same-length
-    returns)
+    returns-2)

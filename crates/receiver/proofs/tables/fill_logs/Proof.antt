@@ -13,11 +13,11 @@ use Rattle.receiver.proofs.tables.fill_logs.Statement.{statement}
 use Rattle.receiver.proofs.tables.fill_logs.Tie as tie
 
 abbrev Inv-loop : tie.InvT-loop
-Inv-loop tables₀ m g period powers x₀ i₀ tables x i =
-    (i ≤ 2 ^ m - 1) × (length tables ≡ length tables₀) × (x ≡ alpha m i) × (x < 2 ^ m) × LogPart m i tables
+Inv-loop c tables₀ period powers x₀ i₀ tables x i =
+    (i ≤ 2 ^ c .m - 1) × (length tables ≡ length tables₀) × (x ≡ alpha (c .m) i) × (x < 2 ^ c .m) × LogPart (c .m) i tables
 
 abbrev μ-loop : tie.MeasureT-loop
-μ-loop tables₀ m g period powers x₀ i₀ tables x i = 2 ^ m - 1 - i
+μ-loop c tables₀ period powers x₀ i₀ tables x i = 2 ^ c .m - 1 - i
 
 small : (s x : ℕ) → s ≤ 1024 → x < s → x < 4294967296
 small s x most h = omega arith
