@@ -25,7 +25,7 @@ pub fn weight_in(test: u64) -> u32
     (test / 4294967296) as u32
 }
 
-// What the flip of a key's position adds to a test word: its weight.
+// What the flip of a key's position adds to the weight in a test word.
 fn flip_of(key: u16) -> u64
     ensures { λ r. ⌜ r ≡ (65536 + key / 1024) * 4294967296 ⌝ }
 {

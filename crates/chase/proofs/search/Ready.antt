@@ -53,7 +53,7 @@ pub record Deep (d : ℕ) (ss ks : List ℕ) (p : ℕ) : Type 0 where
 abbrev pub packedTest : Code → ℕ → List ℕ → ℕ → ℕ
 packedTest c p ss j = packedWeight (reliabilities ss) (test p ss j) (hardBits ss) * 4294967296 + syndromesOf c (test p ss j)
 
--- .. and where it flips the position of one key more
+-- .. and where it flips the position of one key more: the syndromes have its powers added, the weight its flip and its reliability
 abbrev pub flippedMore : Code → ℕ → ℕ → ℕ
 flippedMore c key x = bitXor x (lowerPart (c .t) (powersOf (c .m) (key % 1024))) + (65536 + key / 1024) * 4294967296
 
@@ -63,7 +63,7 @@ xor-low h l v hl hv =
     let e : v ≡ 0 * 4294967296 + v = omega arith in
     ap (bitXor (h * 4294967296 + l)) e ∙ xor-block 32 h 0 l v hl hv ∙ ap (λ (x : ℕ). x * 4294967296 + bitXor l v) (xor-zero-r h)
 
--- the powers of a position are below it
+-- the powers of a position are below 2^32
 powers-small : (c : Code) → Lawful c → (x : ℕ) → lowerPart (c .t) (powersOf (c .m) x) < 4294967296
 powers-small c lawful x =
     let lt : (e : ℕ) → alpha (c .m) e < 2 ^ c .m = alpha-lt (c .m) (primitive-of c lawful) in
@@ -113,10 +113,11 @@ module _ (ss ks : List ℕ) (p : ℕ) (ready : Ready ss ks p) where
 
   -- ---- the test words in one number each
 
+  -- what test word j weighs
   abbrev pub weightOf : ℕ → ℕ
   weightOf j = packedWeight (reliabilities ss) (test p ss j) (hardBits ss)
 
-  -- each weight is small
+  -- it is small, ..
   weight-small : (j : ℕ) → weightOf j < 134217728
   weight-small j =
       omega (
@@ -130,10 +131,11 @@ module _ (ss ks : List ℕ) (p : ℕ) (ready : Ready ss ks p) where
       )
 
   module _ (c : Code) (lawful : Lawful c) where
+    -- its syndromes
     abbrev sumsOf : ℕ → ℕ
     sumsOf j = syndromesOf c (test p ss j)
 
-    -- .. and so are the syndromes, ..
+    -- .. and so are they, ..
     sums-small : (j : ℕ) → sumsOf j < 4294967296
     sums-small j =
         let s = syndromes-in c lawful (test p ss j) (bits-test j (weak p (reliabilities ss)) (hardBits ss) (bits-hard ss (ready .symbols))) (sumsOf j) refl in
@@ -154,7 +156,7 @@ module _ (ss ks : List ℕ) (p : ℕ) (ready : Ready ss ks p) where
         let sums : base ≡ sumsOf 0 = e ∙ ap (syndromesOf c) (sym none) in
         holds-first (packedTest c p ss) out (h ∙ omega arith)
 
-    -- .. and those with a higher bit are had by doubling
+    -- .. a higher bit flips the position of its key, ..
     test-high : (b k : ℕ) → b < p → k < 2 ^ b → packedTest c p ss (k + 2 ^ b) ≡ flippedMore c (getD ks b 0) (packedTest c p ss k)
     test-high b k h l =
         let v = lowerPart (c .t) (powersOf (c .m) (getD ks b 0 % 1024)) in
@@ -169,6 +171,7 @@ module _ (ss ks : List ℕ) (p : ℕ) (ready : Ready ss ks p) where
         let low = xor-low (weightOf k) (sumsOf k) v (sums-small k) (powers-small c lawful (getD ks b 0 % 1024)) in
         omega (arith, sums, weight, low)
 
+    -- .. and so those with one are had by doubling
     pub tests-next : (b size : ℕ) (old new : List ℕ) → b < p → size ≡ 2 ^ b → Doubled (flippedMore c (getD ks b 0)) size old new
         → Holds (packedTest c p ss) (2 ^ b) old → Holds (packedTest c p ss) (2 ^ (b + 1)) new
     tests-next b size old new h q d t =
