@@ -14,11 +14,8 @@ use Rattle.bch.specs.Code.{Code, syndrome, wordLength}
 use Rattle.bch.specs.Hard.{repaired, hardStage}
 use Rattle.bch.proofs.codes.Settings.{Lawful, primitive-of}
 use Rattle.bch.proofs.codes.SyndromeLaws.{syndrome-lt}
-use Rattle.bch.proofs.decoding.Decoder.{attempted-sound}
 use Rattle.bch.proofs.decoding.Sorting.{distinct-below}
-use Rattle.bch.proofs.decoding.Elements.{elements, elements-find}
-use Rattle.bch.proofs.decoding.KappaDecoder.{kappas, kappas-more}
-use Rattle.bch.proofs.decoding.ClosedForm.{located, hard-located, repaired-located, located-distinct}
+use Rattle.bch.proofs.decoding.ClosedForm.{hard-located, repaired-located, located-distinct}
 use Rattle.bch.proofs.tables.Placing.{positions, lowerPart, Placed}
 use Rattle.bch.proofs.tables.CodeTables.{CodeTables, rootsIn}
 use Rattle.bch.proofs.logarithms.LogRoots.{quadIn, firstIn, secondIn, code-tables}
@@ -74,16 +71,6 @@ module _ (c : Code) (lawful : Lawful c) (ts : List ℕ) (tables : CodeTables (c 
   -- .. they are distinct, ..
   pub distinct-in : (P : List ℕ) → locateIn (c .m) (c .t) (c .n) ts s ≡ some P → Distinct (c .n) P
   distinct-in P e = located-distinct c lawful quad first second (code-tables (c .m) (c .t) ts tables) xs long bits P (sym same ∙ e)
-
-  -- .. at most t, ..
-  pub few-in : (P : List ℕ) → locateIn (c .m) (c .t) (c .n) ts s ≡ some P → length P ≤ c .t
-  unfolding located
-  few-in P e =
-      attempted-sound (c .m) (c .t) (c .n) (S 1) (S 3) (S 5) (elements (c .m) quad (kappas (c .m) first second) (c .t) (S 1) (S 3) (S 5))
-      (elements-find (c .m) (primitive-of c lawful) quad (kappas (c .m) first second) (c .n) (S 1) (S 3) (S 5) (lawful .n-most) (c .t) (lawful .t-least)
-      (lawful .t-most) (code-tables (c .m) (c .t) ts tables .quadratics)
-      (λ q. kappas-more (c .m) (primitive-of c lawful) first second (code-tables (c .m) (c .t) ts tables .kappas q)) .short)
-      P (sym same ∙ e) .1 .few
 
   -- .. and as many as its flips
   pub hard-in : hardStage c xs ≡ Option·map (λ (P : List ℕ). record { word = flippedAt P xs; flips = length P }) (locateIn (c .m) (c .t) (c .n) ts s)

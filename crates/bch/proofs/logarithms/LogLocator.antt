@@ -115,10 +115,6 @@ module _ (m : ℕ) (g : Primitive m) (t s1 s3 s5 : ℕ) (h1 : s1 < 2 ^ m) where
   unfolding single
   single-some n = zero-not s1 [] (s1 ∷ []) n
 
-  none-summed : Summed m t 0 0 0 []
-  unfolding sumAt
-  none-summed = record { few = omega arith; sum1 = refl; sum3 = λ h. refl; sum5 = λ h. refl }
-
   -- it adds up to the syndromes where D2 and E are 0
   pub single-summed : 1 ≤ t → (2 ≤ t → d2 m s1 s3 ≡ 0) → (3 ≤ t → e5 m s1 s5 ≡ 0) → Summed m t s1 s3 s5 (map (log m) (single s1))
   unfolding sumAt

@@ -55,12 +55,6 @@ module _ (n : ℕ) where
   both-of true false x y e = absurd (let z : _≡_ {A = ℕ} 0 1 = cc in omega arith)
   both-of false b x y e = absurd (let z : _≡_ {A = ℕ} 0 1 = cc in omega arith)
 
-  none-of : (a b : Bool) (x y : ℕ) (c : Bool) (Q : List ℕ) → lost ≡ when (a && (b && true)) (x ∷ y ∷ []) → lost ≡ when (a && (b && c)) Q
-  unfolding when
-  none-of true true x y c Q e = absurd (let z : _≡_ {A = ℕ} 0 1 = cc in omega arith)
-  none-of true false x y c Q e = refl
-  none-of false b x y c Q e = refl
-
   last-false : (a b : Bool) (Q : List ℕ) → lost ≡ when (a && (b && false)) Q
   unfolding when
   last-false true true Q = refl
@@ -72,10 +66,6 @@ module _ (n : ℕ) where
   third-lost x y z h =
       last-false (ltb x n) (ltb y n) (x ∷ y ∷ z ∷ [])
       ∙ sym (ap (λ (c : Bool). when (ltb x n && (ltb y n && (c && true))) (x ∷ y ∷ z ∷ [])) (le-ltb z n h))
-
-  pub others-lost : (x y z : ℕ) → lost ≡ within n (x ∷ y ∷ []) → lost ≡ within n (x ∷ y ∷ z ∷ [])
-  unfolding within isBelow
-  others-lost x y z e = none-of (ltb x n) (ltb y n) x y (ltb z n && true) (x ∷ y ∷ z ∷ []) e
 
   pub three-found : (x y z : ℕ) {P : List ℕ} → z < n → some P ≡ within n (x ∷ y ∷ []) → some (x ∷ y ∷ z ∷ []) ≡ within n (x ∷ y ∷ z ∷ [])
   unfolding within isBelow when

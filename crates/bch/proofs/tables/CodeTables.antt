@@ -189,14 +189,6 @@ module _ (m t : ℕ) (ts : List ℕ) (f : CodeTables m t ts) where
   pub log-below : (x : ℕ) → x ≢ 0 → x < 2 ^ m → logIn ts x < 2 ^ m - 1
   log-below x n h = rw (f .logs x n h) (log-lt m g x (omega arith) h)
 
-  -- any logarithm has an entry of the powers
-  pub log-most : (x : ℕ) → x < 2 ^ m → logIn ts x ≤ 2 ^ m + 7
-  log-most x h = go (ℕ-discrete x 0)
-    where
-      go : Dec (x ≡ 0) → logIn ts x ≤ 2 ^ m + 7
-      go (yes e) = rw e (omega (arith, f .log-none))
-      go (no n) = omega (arith, log-below x n h)
-
   element : (e : ℕ) → alpha m e < 1024
   element e = element-lt m (alpha m e) (f .most) (alpha-lt m g e)
 

@@ -2,9 +2,7 @@
 use Prim.Native.Nat.{ℕ, _+_, _-_, _≤_}
 use native.Mathlib.Omega.{arith}
 use mathlib.Core.Path.{_≡_, ap, sym, _∙_}
-use mathlib.Core.List.{List}
 use borrow.Author.Needs.{needs}
-use borrow.Author.Tests.{not-false}
 use lib.ListN.{length, replicate, drop}
 use Rattle.bch.specs.Code.{parityLength, messageLength}
 use Rattle.chase.specs.Soft.{softStage}
