@@ -85,7 +85,7 @@ pub fn flip(out: &mut [u8], from: usize, x: usize)
     out[at] = 1 - out[at];
 }
 
-// Flips those at the positions.
+// Flips the bits at the positions.
 pub fn flip_at(out: &mut [u8], from: usize, f: Flips)
     requires { ⌜ Bits (now out) × Placed (from + length (now out)) (f .count) (f .at) ⌝ }
     ensures { λ _. ⌜ now (out .exit) ≡ flippedFrom from (flipsOf f) (now (out .entry)) ⌝ }

@@ -5,7 +5,7 @@ ghost use mathlib.Core.Logic.{inl};
 ghost use Prim.Native.Nat.{_*_, _≤_, _^_};
 ghost use lib.ListN.{drop};
 ghost use Rattle.galois.specs.Field.{poly};
-ghost use Rattle.bch.specs.Code.{code, messageLength};
+ghost use Rattle.bch.specs.Code.{code, wordLength, messageLength};
 ghost use Rattle.take_format.specs.Refusal.{firstOf, refused, unlessAtMost, bitsCheck, symbolsCheck, wordsCheck};
 ghost use Rattle.take_format.specs.Refusal.{settings as Refusal·settings};
 ghost use Rattle.take_format.specs.Calls.{answered};
@@ -279,31 +279,34 @@ fn unless_refused(later: Check, c: Code) -> Named
 
 // The code of a call that takes a message's bits, with room for a codeword: 1, 2, 3, 6, 7, 8.
 pub fn of_message(m: usize, t: usize, n: usize, message: &[u8], room: usize) -> Named
-    ensures { λ r. ⌜ namedOf r ≡ namedBy (code m t n) (bitsCheck (messageLength (code m t n)) n (now (message .entry)) room) ⌝ }
+    ensures { λ r. ⌜ namedOf r ≡ namedBy (code m t n) (bitsCheck (messageLength (code m t n)) (wordLength (code m t n)) (now (message .entry)) room) ⌝ }
 {
     match settings(m, t, n) {
         Named::Refused(r) => Named::Refused(r),
-        Named::Code(c) => unless_refused(bits(c.message_length(), n, message, room), c),
+        Named::Code(c) => unless_refused(bits(c.message_length(), c.length(), message, room), c),
     }
 }
 
 // Of one that takes a word's bits: 1, 2, 3, 6, 7, 8.
 pub fn of_word(m: usize, t: usize, n: usize, word: &[u8], room: usize) -> Named
-    ensures { λ r. ⌜ namedOf r ≡ namedBy (code m t n) (bitsCheck n n (now (word .entry)) room) ⌝ }
+    ensures { λ r. ⌜ namedOf r ≡ namedBy (code m t n) (bitsCheck (wordLength (code m t n)) (wordLength (code m t n)) (now (word .entry)) room) ⌝ }
 {
     match settings(m, t, n) {
         Named::Refused(r) => Named::Refused(r),
-        Named::Code(c) => unless_refused(bits(n, n, word, room), c),
+        Named::Code(c) => {
+            let long = c.length();
+            unless_refused(bits(long, long, word, room), c)
+        }
     }
 }
 
 // Of one that takes a word's symbols and a depth: 1, 2, 3, 4, 6, 7, 9.
 pub fn of_symbols(m: usize, t: usize, n: usize, depth: usize, word: &[u8], room: usize) -> Named
-    ensures { λ r. ⌜ namedOf r ≡ namedBy (code m t n) (symbolsCheck depth n (now (word .entry)) room) ⌝ }
+    ensures { λ r. ⌜ namedOf r ≡ namedBy (code m t n) (symbolsCheck depth (wordLength (code m t n)) (now (word .entry)) room) ⌝ }
 {
     match settings(m, t, n) {
         Named::Refused(r) => Named::Refused(r),
-        Named::Code(c) => unless_refused(symbols(depth, n, word, room), c),
+        Named::Code(c) => unless_refused(symbols(depth, c.length(), word, room), c),
     }
 }
 

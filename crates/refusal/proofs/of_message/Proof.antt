@@ -1,6 +1,6 @@
 -- The settings' refusal, or that of what the call takes, or the code. Assumes nothing.
 use Prim.Native.Nat.{ℕ}
-use mathlib.Core.Path.{ap, sym, _∙_}
+use mathlib.Core.Path.{ap, ap₂, sym, _∙_}
 use mathlib.Core.Option.{Option}
 use borrow.Author.Needs.{needs}
 use Rattle.bch.specs.Code.{code}
@@ -24,6 +24,9 @@ enum-known-c c = search needs
 message-length-requires : tie.Need-message-length-requires
 message-length-requires c κs = search needs
 
+length-requires : tie.Need-length-requires
+length-requires c κs = search needs
+
 bits-requires : tie.Need-bits-requires
 bits-requires c κs = search needs
 
@@ -38,12 +41,14 @@ returns c =
 
 returns-2 : tie.Need-returns-2
 returns-2 c =
-    let a = c .before .before .before .before .before .before .before .before .args in
+    let a = c .before .before .before .before .before .before .before .before .before .args in
     let w = code (a .m) (a .t) (a .n) in
-    let g = c .before .before .before .before .c .given in
-    let named = sym (ap namedOf (g .1)) ∙ c .before .before .before .before .before .before .settings .ensures in
-    let long = c .before .before .message-length .ensures ∙ ap (λ (x : struct.Code). x .k) (named-code (g .0 .0) (firstOf (settings w)) w named .1) in
-    let check = c .before .bits .ensures ∙ ap (λ (k : ℕ). bitsCheck k (a .n) (a .message .now) (a .room)) long in
+    let g = c .before .before .before .before .before .c .given in
+    let named = sym (ap namedOf (g .1)) ∙ c .before .before .before .before .before .before .before .settings .ensures in
+    let same = named-code (g .0 .0) (firstOf (settings w)) w named .1 in
+    let long = c .before .before .length .ensures ∙ ap (λ (x : struct.Code). x .n) same in
+    let short = c .before .before .before .message-length .ensures ∙ ap (λ (x : struct.Code). x .k) same in
+    let check = c .before .bits .ensures ∙ ap₂ (λ (k n : ℕ). bitsCheck k n (a .message .now) (a .room)) short long in
     named-later _ (g .0 .0) w _ named (c .unless-refused .ensures ∙ ap (λ (o : Option Refusal). answered o (g .0 .0)) check)
 
 pub of-message-spec : {M : Type 1} → statement M
@@ -54,6 +59,7 @@ of-message-spec =
     enum-known-r
     enum-known-c
     message-length-requires
+    length-requires
     bits-requires
     unless-refused-requires
     returns
