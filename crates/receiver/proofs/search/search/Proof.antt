@@ -44,7 +44,8 @@ try-on-requires c κs =
     let tests : TestWords k (a .p) (a .s .now) (base .result ∷ []) =
     record {
       most = pow-pos (a .p);
-      are-tests = tests-first (a .s .now) (a .keys .at) (a .p) (r .deep .ready) k (r .filled .fielded .made .lawful) _ (base .result ∷ []) (summed (c .before .before)) refl;
+      are-tests = tests-first (a .s .now) (a .keys .at) (a .p) (r .deep .ready) k (r .filled .fielded .made .lawful) _ (base .result ∷ [])
+          (summed (c .before .before)) refl;
     } in
     let u = c .untried .ensures in
     ((r, tests), (tried-none k (a .p) (a .s .now) _ u, u .unsure, omega (arith, u .none-made)))
