@@ -119,11 +119,11 @@ static void check_encode(void)
 {
     const char *call = "encode";
 
-    check_bits(receiver_encode, call, E, "1", 6, 0, "101001");
-    check_bits(receiver_encode, call, E, "0", 6, 0, "000000");
-    check_bits(receiver_encode, call, (struct code){5, 1, 31}, "00000000000000000000000000", 31, 0, "0000000000000000000000000000000");
-    check_bits_refusals(receiver_encode, call, "01022");
-    check_answer(receiver_encode(5, 1, 6, (const uint8_t[]){1}, 1, NULL, 0), refused(RECEIVER_REFUSED_OUTPUT_LENGTH, 0), call,
+    check_bits(receiver_encode_packed, call, E, "1", 6, 0, "101001");
+    check_bits(receiver_encode_packed, call, E, "0", 6, 0, "000000");
+    check_bits(receiver_encode_packed, call, (struct code){5, 1, 31}, "00000000000000000000000000", 31, 0, "0000000000000000000000000000000");
+    check_bits_refusals(receiver_encode_packed, call, "01022");
+    check_answer(receiver_encode_packed(5, 1, 6, (const uint8_t[]){1}, 1, NULL, 0), refused(RECEIVER_REFUSED_OUTPUT_LENGTH, 0), call,
                  "a codeword that is NULL");
 }
 
@@ -135,11 +135,11 @@ static void check_decode_hard(void)
     const char *call = "decode_hard";
     uint64_t lost = 0;
 
-    check_bits(receiver_decode_hard, call, E, "100000", 6, found(1), "000000");
-    check_bits(receiver_decode_hard, call, E, "110000", 6, lost, UNTOUCHED);
-    check_bits(receiver_decode_hard, call, E, "101000", 6, found(1), "101001");
-    check_bits(receiver_decode_hard, call, E, "101001", 6, found(0), "101001");
-    check_bits_refusals(receiver_decode_hard, call, "0002200000");
+    check_bits(receiver_decode_hard_packed, call, E, "100000", 6, found(1), "000000");
+    check_bits(receiver_decode_hard_packed, call, E, "110000", 6, lost, UNTOUCHED);
+    check_bits(receiver_decode_hard_packed, call, E, "101000", 6, found(1), "101001");
+    check_bits(receiver_decode_hard_packed, call, E, "101001", 6, found(0), "101001");
+    check_bits_refusals(receiver_decode_hard_packed, call, "0002200000");
     check(receiver_found(found(3)) && receiver_flips(found(3)) == 3, call, "3 flips", "not read as found with 3 flips");
     check(!receiver_found(lost), call, "lost", "read as found");
 }
@@ -169,7 +169,7 @@ static void check_found(const char *input, const char *bits, const char *reliabi
     uint8_t symbols[ROOM];
     size_t length = symbols_of(bits, reliabilities, symbols);
     struct lent output;
-    uint64_t answer = receiver_decode_soft(5, 1, 6, depth, symbols, length, lend(&output), 6);
+    uint64_t answer = receiver_decode_soft_packed(5, 1, 6, depth, symbols, length, lend(&output), 6);
 
     check(receiver_refusal(answer) == 0, call, input, "is refused");
     check(receiver_mark(answer) == wanted.mark, call, input, "another mark");
@@ -187,7 +187,7 @@ static void check_soft_refused(struct code code, size_t depth, const char *bits,
     uint8_t symbols[ROOM];
     size_t length = symbols_of(bits, bits, symbols);
     struct lent output;
-    uint64_t answer = receiver_decode_soft(code.m, code.t, code.n, depth, symbols, length, lend(&output), room);
+    uint64_t answer = receiver_decode_soft_packed(code.m, code.t, code.n, depth, symbols, length, lend(&output), room);
 
     check_answer(answer, wanted, call, bits);
     check(holds(&output, UNTOUCHED), call, bits, "a refusal wrote to the codeword buffer");
@@ -213,7 +213,7 @@ static void check_decode_soft(void)
     check_soft_refused(E, 6, "000022", 7, refused(RECEIVER_REFUSED_OUTPUT_LENGTH, 0));
     check_soft_refused(E, 6, "000022", 5, refused(RECEIVER_REFUSED_OUTPUT_LENGTH, 0));
     check_soft_refused(E, 6, "000022", 6, refused(RECEIVER_REFUSED_SYMBOL, 4));
-    check_answer(receiver_decode_soft(5, 1, 6, 0, NULL, 0, NULL, 0), refused(RECEIVER_REFUSED_INPUT_LENGTH, 0), "decode_soft", "NULL");
+    check_answer(receiver_decode_soft_packed(5, 1, 6, 0, NULL, 0, NULL, 0), refused(RECEIVER_REFUSED_INPUT_LENGTH, 0), "decode_soft", "NULL");
 }
 
 /* ---- ladders and samples */
@@ -227,17 +227,17 @@ static void check_edge(size_t position, float edge, uint64_t wanted, const char 
 
     memcpy(edges, EDGES, sizeof edges);
     edges[position] = edge;
-    check_answer(receiver_check_ladder(edges, 15), wanted, "check_ladder", input);
+    check_answer(receiver_check_ladder_packed(edges, 15), wanted, "check_ladder", input);
 }
 
 static void check_ladder(void)
 {
     uint64_t no_ladder = refused(RECEIVER_REFUSED_LADDER, 0);
 
-    check_answer(receiver_check_ladder(EDGES, 15), 0, "check_ladder", "1 to 15");
-    check_answer(receiver_check_ladder(EDGES, 14), no_ladder, "check_ladder", "fourteen edges");
-    check_answer(receiver_check_ladder(EDGES, 16), no_ladder, "check_ladder", "sixteen edges");
-    check_answer(receiver_check_ladder(NULL, 0), no_ladder, "check_ladder", "NULL");
+    check_answer(receiver_check_ladder_packed(EDGES, 15), 0, "check_ladder", "1 to 15");
+    check_answer(receiver_check_ladder_packed(EDGES, 14), no_ladder, "check_ladder", "fourteen edges");
+    check_answer(receiver_check_ladder_packed(EDGES, 16), no_ladder, "check_ladder", "sixteen edges");
+    check_answer(receiver_check_ladder_packed(NULL, 0), no_ladder, "check_ladder", "NULL");
     check_edge(0, 0.0f, no_ladder, "first edge zero");
     check_edge(7, 7.0f, no_ladder, "two edges equal");
     check_edge(7, NAN, no_ladder, "an edge that is not a number");
@@ -250,7 +250,7 @@ static void check_samples(size_t edges, const char *kinds_text, const float *lev
     uint8_t kinds[ROOM];
     size_t kinds_length = numbers(kinds_text, kinds);
     struct lent output;
-    uint64_t answer = receiver_quantise(EDGES, edges, kinds, kinds_length, levels, levels_length, lend(&output), room);
+    uint64_t answer = receiver_quantise_packed(EDGES, edges, kinds, kinds_length, levels, levels_length, lend(&output), room);
 
     check_answer(answer, wanted, "quantise", input);
     check(holds(&output, UNTOUCHED), "quantise", input, "a refusal wrote to the symbols");
@@ -263,10 +263,10 @@ static void check_quantise(void)
     const float bad[] = {1.0f, 1.0f, NAN, 1.0f};
     uint8_t symbols[8];
 
-    check_answer(receiver_quantise(EDGES, 15, kinds, 8, levels, 8, symbols, 8), 0, "quantise", "eight samples");
+    check_answer(receiver_quantise_packed(EDGES, 15, kinds, 8, levels, 8, symbols, 8), 0, "quantise", "eight samples");
     check(memcmp(symbols, wanted, 8) == 0, "quantise", "eight samples", "other symbols");
-    check_answer(receiver_quantise(EDGES, 15, NULL, 0, NULL, 0, NULL, 0), 0, "quantise", "no samples, NULL");
-    check_answer(receiver_quantise(NULL, 0, NULL, 0, NULL, 0, NULL, 0), refused(RECEIVER_REFUSED_LADDER, 0), "quantise", "edges NULL");
+    check_answer(receiver_quantise_packed(EDGES, 15, NULL, 0, NULL, 0, NULL, 0), 0, "quantise", "no samples, NULL");
+    check_answer(receiver_quantise_packed(NULL, 0, NULL, 0, NULL, 0, NULL, 0), refused(RECEIVER_REFUSED_LADDER, 0), "quantise", "edges NULL");
 
     check_samples(14, "0112", bad, 3, 5, refused(RECEIVER_REFUSED_LADDER, 0), "every fault");
     check_samples(15, "0112", bad, 3, 5, refused(RECEIVER_REFUSED_INPUT_LENGTH, 0), "a level too few");
@@ -298,14 +298,14 @@ static const uint8_t EMPTY[] = {0, 0, 8, 3, 255, 0, 6, 0, 13, 0, 1, 0, 'x'};
 
 static void check_open(const uint8_t *take, size_t length, uint64_t wanted, const char *input)
 {
-    check_answer(receiver_open_take(take, length), wanted, "open_take", input);
+    check_answer(receiver_open_take_packed(take, length), wanted, "open_take", input);
 }
 
 static void check_read(const uint8_t *take, size_t length, size_t messages_room, size_t marks_room, uint64_t wanted, const char *messages,
                        const char *marks, const char *input)
 {
     struct lent messages_lent, marks_lent;
-    uint64_t answer = receiver_read_take(take, length, lend(&messages_lent), messages_room, lend(&marks_lent), marks_room);
+    uint64_t answer = receiver_read_take_packed(take, length, lend(&messages_lent), messages_room, lend(&marks_lent), marks_room);
 
     check_answer(answer, wanted, "read_take", input);
     check(holds(&messages_lent, messages), "read_take", input, "the messages are not as they should be");
@@ -346,13 +346,13 @@ static void check_take_refusals(void)
     take[15] = 31;
     check_take_refused(take, TAKE, RECEIVER_REFUSED_SYMBOL, 20, "a symbol of 255 at 20");
     take[20] = 31;
-    check(receiver_refusal(receiver_open_take(take, TAKE)) == 0, "open_take", "symbols of 31", "is refused");
+    check(receiver_refusal(receiver_open_take_packed(take, TAKE)) == 0, "open_take", "symbols of 31", "is refused");
     check_take_refused(NULL, 0, RECEIVER_REFUSED_TAKE_HEADER, 0, "NULL");
 }
 
 static void check_header(const uint8_t *take, size_t length, size_t words, struct code code, size_t k, size_t depth, const char *input)
 {
-    uint64_t answer = receiver_open_take(take, length);
+    uint64_t answer = receiver_open_take_packed(take, length);
 
     check(receiver_refusal(answer) == 0, "open_take", input, "is refused");
     check(receiver_take_words(answer) == words, "open_take", input, "other words");
@@ -374,7 +374,7 @@ static void check_takes(void)
     check_header(EMPTY, sizeof EMPTY, 0, (struct code){8, 3, 255}, 231, 6, "no words");
     check_read(EXAMPLE, TAKE, 2, 2, totals(1, 0, 2), "00", "20", "the example");
     check_read(MIXED, TAKE, 2, 2, totals(1, 1, 17), "10", "12", "cases 9 and 10");
-    check_answer(receiver_read_take(EMPTY, sizeof EMPTY, NULL, 0, NULL, 0), totals(0, 0, 0), "read_take", "no words, NULL");
+    check_answer(receiver_read_take_packed(EMPTY, sizeof EMPTY, NULL, 0, NULL, 0), totals(0, 0, 0), "read_take", "no words, NULL");
     check(receiver_total_sure(some) == 1 && receiver_total_fair(some) == 2 && receiver_total_tries(some) == 3, "read_take",
           "totals 1, 2, 3", "not read as these");
     check_take_refusals();

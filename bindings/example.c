@@ -38,13 +38,13 @@ static void hard_stage(uint8_t codeword[N])
 {
     uint8_t message[K] = {1, 0, 1, 1, 0, 0, 1}, received[N];
 
-    accepted("encode", receiver_encode(M, T, N, message, K, codeword, N));
+    accepted("encode", receiver_encode_packed(M, T, N, message, K, codeword, N));
     print_bits("message ", message, K);
     print_bits("codeword", codeword, N);
 
     for (size_t i = 0; i < N; i++)
         received[i] = codeword[i] ^ (i == 20 || i == 40);
-    uint64_t answer = accepted("decode_hard", receiver_decode_hard(M, T, N, received, N, codeword, N));
+    uint64_t answer = accepted("decode_hard", receiver_decode_hard_packed(M, T, N, received, N, codeword, N));
     if (receiver_found(answer))
         printf("hard stage: %u flips\n", receiver_flips(answer));
     else
@@ -59,7 +59,7 @@ static void soft_stage(uint8_t codeword[N])
 
     for (int i = 0; i < 15; i++)
         edges[i] = (float)(i + 1);
-    accepted("check_ladder", receiver_check_ladder(edges, 15));
+    accepted("check_ladder", receiver_check_ladder_packed(edges, 15));
 
     for (size_t i = 0; i < N; i++) {
         kinds[i] = i != 30;     /* 1 heard, 0 blank */
@@ -67,9 +67,9 @@ static void soft_stage(uint8_t codeword[N])
         if (i % 16 == 5)
             levels[i] *= -0.2f;
     }
-    accepted("quantise", receiver_quantise(edges, 15, kinds, N, levels, N, symbols, N));
+    accepted("quantise", receiver_quantise_packed(edges, 15, kinds, N, levels, N, symbols, N));
 
-    uint64_t answer = accepted("decode_soft", receiver_decode_soft(M, T, N, DEPTH, symbols, N, codeword, N));
+    uint64_t answer = accepted("decode_soft", receiver_decode_soft_packed(M, T, N, DEPTH, symbols, N, codeword, N));
     printf("soft stage: %s, distance %u, margin %d, flips %u, place %u, tries %u\n", mark_names[receiver_mark(answer)],
            receiver_distance(answer), receiver_margin(answer), receiver_flips(answer), receiver_place(answer), receiver_tries(answer));
     if (receiver_mark(answer) != RECEIVER_LOST)
@@ -79,7 +79,7 @@ static void soft_stage(uint8_t codeword[N])
 /* Opens a take to learn how much room it needs, and reads it. */
 static void read_take(const uint8_t *take, size_t length)
 {
-    uint64_t opened = accepted("open_take", receiver_open_take(take, length));
+    uint64_t opened = accepted("open_take", receiver_open_take_packed(take, length));
     size_t words = receiver_take_words(opened), k = receiver_take_k(opened);
     printf("take: %zu words of the code m %zu, t %zu, n %zu, depth %zu\n", words, receiver_take_m(opened), receiver_take_t(opened),
            receiver_take_n(opened), receiver_take_depth(opened));
@@ -89,7 +89,7 @@ static void read_take(const uint8_t *take, size_t length)
         fprintf(stderr, "no room for %zu words\n", words);
         exit(1);
     }
-    uint64_t totals = accepted("read_take", receiver_read_take(take, length, messages, words * k, marks, words));
+    uint64_t totals = accepted("read_take", receiver_read_take_packed(take, length, messages, words * k, marks, words));
     for (size_t i = 0; i < words; i++) {
         if (marks[i] == RECEIVER_LOST)
             puts(mark_names[RECEIVER_LOST]);

@@ -63,7 +63,7 @@ enum {
  * Takes k message bits; writes n bits.
  * Answers 0, or refuses with the first of 1, 2, 3, 6, 7, 8 that applies; `codeword` is then as it was.
  */
-uint64_t receiver_encode(size_t m, size_t t, size_t n, const uint8_t *message, size_t message_length, uint8_t *codeword,
+uint64_t receiver_encode_packed(size_t m, size_t t, size_t n, const uint8_t *message, size_t message_length, uint8_t *codeword,
                          size_t codeword_length);
 
 /*
@@ -75,7 +75,7 @@ uint64_t receiver_encode(size_t m, size_t t, size_t n, const uint8_t *message, s
  *     byte 0      1 found, 0 lost     receiver_found
  *     byte 1      the flips           receiver_flips
  */
-uint64_t receiver_decode_hard(size_t m, size_t t, size_t n, const uint8_t *bits, size_t bits_length, uint8_t *codeword,
+uint64_t receiver_decode_hard_packed(size_t m, size_t t, size_t n, const uint8_t *bits, size_t bits_length, uint8_t *codeword,
                               size_t codeword_length);
 
 /*
@@ -95,14 +95,14 @@ uint64_t receiver_decode_hard(size_t m, size_t t, size_t n, const uint8_t *bits,
  * Every other codeword has at least the distance plus the margin, and a codeword found is sure exactly where its margin is 0 or more. The
  * margin of a lost word is 0 too: look at the mark first.
  */
-uint64_t receiver_decode_soft(size_t m, size_t t, size_t n, size_t depth, const uint8_t *symbols, size_t symbols_length,
+uint64_t receiver_decode_soft_packed(size_t m, size_t t, size_t n, size_t depth, const uint8_t *symbols, size_t symbols_length,
                               uint8_t *codeword, size_t codeword_length);
 
 /*
  * Checks a ladder: fifteen edges, the first above zero and each above the one before.
  * Answers 0, or refuses with 5. Writes nothing.
  */
-uint64_t receiver_check_ladder(const float *edges, size_t edges_length);
+uint64_t receiver_check_ladder_packed(const float *edges, size_t edges_length);
 
 /*
  * Writes the symbol of each sample by a ladder. A sample is a kind, 0 blank or 1 heard, and a level. A blank gives the symbol 0, and its
@@ -112,7 +112,7 @@ uint64_t receiver_check_ladder(const float *edges, size_t edges_length);
  * Answers 0, or refuses with the first of 5, 6, 7 that applies, and then with 10 or 11 for the first sample that has a fault, where a kind
  * above 1 gives 10 whatever the level; `symbols` is then as it was.
  */
-uint64_t receiver_quantise(const float *edges, size_t edges_length, const uint8_t *kinds, size_t kinds_length, const float *levels,
+uint64_t receiver_quantise_packed(const float *edges, size_t edges_length, const uint8_t *kinds, size_t kinds_length, const float *levels,
                            size_t levels_length, uint8_t *symbols, size_t symbols_length);
 
 /*
@@ -128,7 +128,7 @@ uint64_t receiver_quantise(const float *edges, size_t edges_length, const uint8_
  *     byte 6      t           receiver_take_t
  *     byte 7      the depth   receiver_take_depth
  */
-uint64_t receiver_open_take(const uint8_t *take, size_t take_length);
+uint64_t receiver_open_take_packed(const uint8_t *take, size_t take_length);
 
 /*
  * Reads a take: each of its words goes to the soft stage at the take's depth.
@@ -142,7 +142,7 @@ uint64_t receiver_open_take(const uint8_t *take, size_t take_length);
  *
  * There are `marks_length` words; those that are neither sure nor fair are lost.
  */
-uint64_t receiver_read_take(const uint8_t *take, size_t take_length, uint8_t *messages, size_t messages_length, uint8_t *marks,
+uint64_t receiver_read_take_packed(const uint8_t *take, size_t take_length, uint8_t *messages, size_t messages_length, uint8_t *marks,
                             size_t marks_length);
 
 /* ---- what an answer says */

@@ -44,7 +44,7 @@ use std::fmt;
 /// number, whose lowest byte is 128 or more for a refusal.
 mod raw {
     extern "C" {
-        pub fn receiver_encode(
+        pub fn receiver_encode_packed(
             m: usize,
             t: usize,
             n: usize,
@@ -53,7 +53,7 @@ mod raw {
             codeword: *mut u8,
             codeword_length: usize,
         ) -> u64;
-        pub fn receiver_decode_hard(
+        pub fn receiver_decode_hard_packed(
             m: usize,
             t: usize,
             n: usize,
@@ -62,7 +62,7 @@ mod raw {
             codeword: *mut u8,
             codeword_length: usize,
         ) -> u64;
-        pub fn receiver_decode_soft(
+        pub fn receiver_decode_soft_packed(
             m: usize,
             t: usize,
             n: usize,
@@ -72,8 +72,8 @@ mod raw {
             codeword: *mut u8,
             codeword_length: usize,
         ) -> u64;
-        pub fn receiver_check_ladder(edges: *const f32, edges_length: usize) -> u64;
-        pub fn receiver_quantise(
+        pub fn receiver_check_ladder_packed(edges: *const f32, edges_length: usize) -> u64;
+        pub fn receiver_quantise_packed(
             edges: *const f32,
             edges_length: usize,
             kinds: *const u8,
@@ -83,8 +83,8 @@ mod raw {
             symbols: *mut u8,
             symbols_length: usize,
         ) -> u64;
-        pub fn receiver_open_take(take: *const u8, take_length: usize) -> u64;
-        pub fn receiver_read_take(
+        pub fn receiver_open_take_packed(take: *const u8, take_length: usize) -> u64;
+        pub fn receiver_read_take_packed(
             take: *const u8,
             take_length: usize,
             messages: *mut u8,
@@ -180,7 +180,7 @@ fn answered(number: u64) -> Result<u64, Refusal> {
 pub fn encode(code: Code, message: &[u8], codeword: &mut [u8]) -> Result<(), Refusal> {
     // Safety: pointers and lengths are those of slices, and one that is lent to be written overlaps no other.
     let number =
-        unsafe { raw::receiver_encode(code.m, code.t, code.n, message.as_ptr(), message.len(), codeword.as_mut_ptr(), codeword.len()) };
+        unsafe { raw::receiver_encode_packed(code.m, code.t, code.n, message.as_ptr(), message.len(), codeword.as_mut_ptr(), codeword.len()) };
     answered(number).map(|_| ())
 }
 
@@ -212,7 +212,7 @@ pub enum Hard {
 pub fn decode_hard(code: Code, bits: &[u8], codeword: &mut [u8]) -> Result<Hard, Refusal> {
     // Safety: pointers and lengths are those of slices, and one that is lent to be written overlaps no other.
     let number =
-        unsafe { raw::receiver_decode_hard(code.m, code.t, code.n, bits.as_ptr(), bits.len(), codeword.as_mut_ptr(), codeword.len()) };
+        unsafe { raw::receiver_decode_hard_packed(code.m, code.t, code.n, bits.as_ptr(), bits.len(), codeword.as_mut_ptr(), codeword.len()) };
     answered(number).map(|number| match number as u8 {
         0 => Hard::Lost,
         _ => Hard::Found { flips: (number >> 8) as usize },
@@ -317,7 +317,7 @@ impl Soft {
 pub fn decode_soft(code: Code, depth: usize, symbols: &[u8], codeword: &mut [u8]) -> Result<Soft, Refusal> {
     // Safety: pointers and lengths are those of slices, and one that is lent to be written overlaps no other.
     let number = unsafe {
-        raw::receiver_decode_soft(code.m, code.t, code.n, depth, symbols.as_ptr(), symbols.len(), codeword.as_mut_ptr(), codeword.len())
+        raw::receiver_decode_soft_packed(code.m, code.t, code.n, depth, symbols.as_ptr(), symbols.len(), codeword.as_mut_ptr(), codeword.len())
     };
     answered(number).map(|number| {
         let found = Found {
@@ -345,7 +345,7 @@ impl Ladder {
     /// The ladder of these edges. Refuses with 5 where they are none.
     pub fn new(edges: &[f32]) -> Result<Ladder, Refusal> {
         // Safety: pointer and length are those of a slice.
-        let number = unsafe { raw::receiver_check_ladder(edges.as_ptr(), edges.len()) };
+        let number = unsafe { raw::receiver_check_ladder_packed(edges.as_ptr(), edges.len()) };
         answered(number)?;
         let mut ladder = Ladder { edges: [0.0; 15] };
         ladder.edges.copy_from_slice(edges);
@@ -382,7 +382,7 @@ impl Ladder {
 pub fn quantise(edges: &[f32], kinds: &[u8], levels: &[f32], symbols: &mut [u8]) -> Result<(), Refusal> {
     // Safety: pointers and lengths are those of slices, and one that is lent to be written overlaps no other.
     let number = unsafe {
-        raw::receiver_quantise(
+        raw::receiver_quantise_packed(
             edges.as_ptr(),
             edges.len(),
             kinds.as_ptr(),
@@ -421,7 +421,7 @@ pub struct Header {
 /// ```
 pub fn open_take(take: &[u8]) -> Result<Header, Refusal> {
     // Safety: pointer and length are those of a slice.
-    let number = unsafe { raw::receiver_open_take(take.as_ptr(), take.len()) };
+    let number = unsafe { raw::receiver_open_take_packed(take.as_ptr(), take.len()) };
     answered(number).map(|number| Header {
         words: (number >> 8) as u16 as usize,
         code: Code::new((number >> 40) as u8 as usize, (number >> 48) as u8 as usize, (number >> 24) as u16 as usize),
@@ -461,7 +461,7 @@ pub struct Totals {
 pub fn read_take(take: &[u8], messages: &mut [u8], marks: &mut [u8]) -> Result<Totals, Refusal> {
     // Safety: pointers and lengths are those of slices, and those that are lent to be written overlap no other.
     let number = unsafe {
-        raw::receiver_read_take(take.as_ptr(), take.len(), messages.as_mut_ptr(), messages.len(), marks.as_mut_ptr(), marks.len())
+        raw::receiver_read_take_packed(take.as_ptr(), take.len(), messages.as_mut_ptr(), messages.len(), marks.as_mut_ptr(), marks.len())
     };
     answered(number).map(|number| {
         let words = marks.len();

@@ -20,7 +20,7 @@ mod packed;
 
 // Writes the codeword that carries a message of n - m t bits.
 #[no_mangle]
-pub extern "C" fn receiver_encode(
+pub extern "C" fn receiver_encode_packed(
     m: usize,
     t: usize,
     n: usize,
@@ -38,7 +38,7 @@ pub extern "C" fn receiver_encode(
 
 // Writes the codeword within t flips of n bits, where there is one.
 #[no_mangle]
-pub extern "C" fn receiver_decode_hard(
+pub extern "C" fn receiver_decode_hard_packed(
     m: usize,
     t: usize,
     n: usize,
@@ -57,7 +57,7 @@ pub extern "C" fn receiver_decode_hard(
 
 // Writes the codeword that the search of the given depth finds for n symbols, where it finds one.
 #[no_mangle]
-pub extern "C" fn receiver_decode_soft(
+pub extern "C" fn receiver_decode_soft_packed(
     m: usize,
     t: usize,
     n: usize,
@@ -90,7 +90,7 @@ pub extern "C" fn receiver_decode_soft(
 
 // Checks the edges of a ladder.
 #[no_mangle]
-pub extern "C" fn receiver_check_ladder(edges: &[f32]) -> u64
+pub extern "C" fn receiver_check_ladder_packed(edges: &[f32]) -> u64
     ensures { λ r. ⌜ r ≡ checkPacked (ladderCheck (now (edges .entry))) ⌝ }
 {
     match quantiser::make_ladder(edges) {
@@ -101,7 +101,7 @@ pub extern "C" fn receiver_check_ladder(edges: &[f32]) -> u64
 
 // Writes the symbol of each sample by the ladder of these edges.
 #[no_mangle]
-pub extern "C" fn receiver_quantise(
+pub extern "C" fn receiver_quantise_packed(
     edges: &[f32],
     kinds: &[u8],
     levels: &[f32],
@@ -123,7 +123,7 @@ pub extern "C" fn receiver_quantise(
 
 // Checks a take whole and answers what its header says.
 #[no_mangle]
-pub extern "C" fn receiver_open_take(take: &[u8]) -> u64
+pub extern "C" fn receiver_open_take_packed(take: &[u8]) -> u64
     ensures { λ r. ⌜ r ≡ openPacked (openAnswer (now (take .entry))) ⌝ }
 {
     match takes::open_take(take) {
@@ -134,7 +134,11 @@ pub extern "C" fn receiver_open_take(take: &[u8]) -> u64
 
 // Reads a take: writes k message bytes and a mark byte for each of its words.
 #[no_mangle]
-pub extern "C" fn receiver_read_take(take: &[u8], messages: &mut [u8], marks: &mut [u8]) -> u64
+pub extern "C" fn receiver_read_take_packed(
+    take: &[u8],
+    messages: &mut [u8],
+    marks: &mut [u8],
+) -> u64
     ensures answer { λ r. ⌜ r ≡ takePacked (takeAnswer (now (take .entry)) (now (messages .entry)) (now (marks .entry))) ⌝ }
     ensures messages { λ _. ⌜ now (messages .exit) ≡ takeMessages (now (take .entry)) (now (messages .entry)) (now (marks .entry)) ⌝ }
     ensures marks { λ _. ⌜ now (marks .exit) ≡ takeMarks (now (take .entry)) (now (messages .entry)) (now (marks .entry)) ⌝ }

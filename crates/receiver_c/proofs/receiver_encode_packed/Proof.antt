@@ -5,8 +5,8 @@ use Rattle.take_format.proofs.checks.Numbers.{numbered-bits}
 use Rattle.encoder.specs.Outcome.{encodedOf}
 use Rattle.receiver_c.specs.Packed.{checkPacked}
 use Rattle.receiver_c.proofs.Sizes.{number-small}
-use Rattle.receiver_c.proofs.receiver_encode.Statement.{statement}
-use Rattle.receiver_c.proofs.receiver_encode.Tie as tie
+use Rattle.receiver_c.proofs.receiver_encode_packed.Statement.{statement}
+use Rattle.receiver_c.proofs.receiver_encode_packed.Tie as tie
 
 encode-requires : tie.Need-encode-requires
 encode-requires c κs = search needs
@@ -40,8 +40,8 @@ returns-2 c =
     let e = sym (ap encodedOf (c .enum-told .given .1)) ∙ c .before .before .before .before .encode .ensures .0 in
     (ap checkPacked e, c .before .before .before .before .encode .ensures .1)
 
-pub receiver-encode-spec : {M : Type 1} → statement M
-receiver-encode-spec =
+pub receiver-encode-packed-spec : {M : Type 1} → statement M
+receiver-encode-packed-spec =
     tie.close
     (tie.spec
     encode-requires

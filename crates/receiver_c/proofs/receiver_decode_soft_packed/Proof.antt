@@ -9,8 +9,8 @@ use Rattle.receiver.specs.declared.Soft.{Soft}
 use Rattle.receiver_c.specs.Packed.{softPacked, answerPacked}
 use Rattle.receiver_c.proofs.Raised.{mag-again, handed-on}
 use Rattle.receiver_c.proofs.Sizes.{soft-refused, told-room, told-packed}
-use Rattle.receiver_c.proofs.receiver_decode_soft.Statement.{statement}
-use Rattle.receiver_c.proofs.receiver_decode_soft.Tie as tie
+use Rattle.receiver_c.proofs.receiver_decode_soft_packed.Statement.{statement}
+use Rattle.receiver_c.proofs.receiver_decode_soft_packed.Tie as tie
 
 decode-soft-requires : tie.Need-decode-soft-requires
 decode-soft-requires c κs = search needs
@@ -101,8 +101,8 @@ returns-4 c =
       c .before .before .before .before .before .before .decode-soft .ensures .1,
     )
 
-pub receiver-decode-soft-spec : {M : Type 1} → statement M
-receiver-decode-soft-spec =
+pub receiver-decode-soft-packed-spec : {M : Type 1} → statement M
+receiver-decode-soft-packed-spec =
     tie.close
     (tie.spec
     decode-soft-requires

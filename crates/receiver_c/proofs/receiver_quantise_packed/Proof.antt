@@ -7,8 +7,8 @@ use Rattle.quantiser.specs.Told.{madeOf}
 use Rattle.receiver_c.specs.Packed.{checkPacked}
 use Rattle.receiver_c.proofs.Sizes.{number-small, ladder-refused, ladder-passed}
 use Rattle.receiver_c.proofs.Laddered.{first-ladder, then-samples}
-use Rattle.receiver_c.proofs.receiver_quantise.Statement.{statement}
-use Rattle.receiver_c.proofs.receiver_quantise.Tie as tie
+use Rattle.receiver_c.proofs.receiver_quantise_packed.Statement.{statement}
+use Rattle.receiver_c.proofs.receiver_quantise_packed.Tie as tie
 
 make-ladder-requires : tie.Need-make-ladder-requires
 make-ladder-requires c κs = search needs
@@ -77,8 +77,8 @@ returns-3 c =
     let n = then-samples (a .edges .now) (a .kinds .now) (a .levels .now) (a .symbols .now) (l .0) in
     (ap checkPacked (e ∙ n .0), q .1 ∙ n .1 _ (l .1))
 
-pub receiver-quantise-spec : {M : Type 1} → statement M
-receiver-quantise-spec =
+pub receiver-quantise-packed-spec : {M : Type 1} → statement M
+receiver-quantise-packed-spec =
     tie.close
     (tie.spec
     make-ladder-requires

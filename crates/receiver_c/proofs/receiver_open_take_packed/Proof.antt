@@ -4,8 +4,8 @@ use borrow.Author.Needs.{needs}
 use Rattle.takes.specs.Answer.{openingOf}
 use Rattle.receiver_c.specs.Packed.{openPacked}
 use Rattle.receiver_c.proofs.Sizes.{open-number}
-use Rattle.receiver_c.proofs.receiver_open_take.Statement.{statement}
-use Rattle.receiver_c.proofs.receiver_open_take.Tie as tie
+use Rattle.receiver_c.proofs.receiver_open_take_packed.Statement.{statement}
+use Rattle.receiver_c.proofs.receiver_open_take_packed.Tie as tie
 
 open-take-requires : tie.Need-open-take-requires
 open-take-requires c κs = search needs
@@ -33,8 +33,8 @@ returns-2 : tie.Need-returns-2
 unfolding openingOf openPacked
 returns-2 c = c .header .ensures ∙ ap openPacked (sym (ap openingOf (c .before .before .h .given .1)) ∙ c .before .before .before .before .open-take .ensures)
 
-pub receiver-open-take-spec : {M : Type 1} → statement M
-receiver-open-take-spec =
+pub receiver-open-take-packed-spec : {M : Type 1} → statement M
+receiver-open-take-packed-spec =
     tie.close
     (tie.spec
     open-take-requires

@@ -6,8 +6,8 @@ use Rattle.receiver.specs.Answer.{wordsOf}
 use Rattle.receiver_c.specs.Packed.{takePacked}
 use Rattle.receiver_c.proofs.Sizes.{take-number, few-words, totals-room}
 use Rattle.receiver_c.proofs.Promises.{refusal-promise, totals-promise}
-use Rattle.receiver_c.proofs.receiver_read_take.Statement.{statement}
-use Rattle.receiver_c.proofs.receiver_read_take.Tie as tie
+use Rattle.receiver_c.proofs.receiver_read_take_packed.Statement.{statement}
+use Rattle.receiver_c.proofs.receiver_read_take_packed.Tie as tie
 
 read-take-requires : tie.Need-read-take-requires
 read-take-requires c κs = search needs
@@ -69,8 +69,8 @@ returns-2 c =
       ),
     )
 
-pub receiver-read-take-spec : {M : Type 1} → statement M
-receiver-read-take-spec =
+pub receiver-read-take-packed-spec : {M : Type 1} → statement M
+receiver-read-take-packed-spec =
     tie.close
     (tie.spec
     read-take-requires

@@ -7,8 +7,8 @@ use Rattle.bch.specs.Code.{code}
 use Rattle.receiver.specs.Answer.{hardOf}
 use Rattle.receiver_c.specs.Packed.{hardPacked}
 use Rattle.receiver_c.proofs.Sizes.{hard-number, flips-small}
-use Rattle.receiver_c.proofs.receiver_decode_hard.Statement.{statement}
-use Rattle.receiver_c.proofs.receiver_decode_hard.Tie as tie
+use Rattle.receiver_c.proofs.receiver_decode_hard_packed.Statement.{statement}
+use Rattle.receiver_c.proofs.receiver_decode_hard_packed.Tie as tie
 
 decode-hard-requires : tie.Need-decode-hard-requires
 decode-hard-requires c κs = search needs
@@ -69,8 +69,8 @@ returns-3 c =
     let e = sym (ap hardOf (c .before .flips .given .1)) ∙ c .before .before .before .before .before .decode-hard .ensures .0 in
     (ap hardPacked e, c .before .before .before .before .before .decode-hard .ensures .1)
 
-pub receiver-decode-hard-spec : {M : Type 1} → statement M
-receiver-decode-hard-spec =
+pub receiver-decode-hard-packed-spec : {M : Type 1} → statement M
+receiver-decode-hard-packed-spec =
     tie.close
     (tie.spec
     decode-hard-requires

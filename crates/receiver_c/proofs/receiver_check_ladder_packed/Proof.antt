@@ -5,8 +5,8 @@ use Rattle.take_format.proofs.checks.Numbers.{numbered-ladder}
 use Rattle.quantiser.specs.Told.{madeOf}
 use Rattle.receiver_c.specs.Packed.{checkPacked}
 use Rattle.receiver_c.proofs.Sizes.{number-small, ladder-refused, ladder-passed}
-use Rattle.receiver_c.proofs.receiver_check_ladder.Statement.{statement}
-use Rattle.receiver_c.proofs.receiver_check_ladder.Tie as tie
+use Rattle.receiver_c.proofs.receiver_check_ladder_packed.Statement.{statement}
+use Rattle.receiver_c.proofs.receiver_check_ladder_packed.Tie as tie
 
 make-ladder-requires : tie.Need-make-ladder-requires
 make-ladder-requires c κs = search needs
@@ -37,7 +37,7 @@ returns-2 c =
     (sym (ap madeOf (c .enum-told .given .1)) ∙ c .before .before .make-ladder .ensures) .0 in
     ap checkPacked e
 
-pub receiver-check-ladder-spec : {M : Type 1} → statement M
-receiver-check-ladder-spec =
+pub receiver-check-ladder-packed-spec : {M : Type 1} → statement M
+receiver-check-ladder-packed-spec =
     tie.close
     (tie.spec make-ladder-requires enum-known-r refusal-requires enum-told returns returns-2)
