@@ -1,0 +1,87 @@
+// The calls on one word: the encoder, the hard stage and the soft stage.
+use crate::fields;
+use crate::print;
+use encoder::Encoded;
+use receiver::Hard;
+use receiver::Totals;
+
+// The longest word that a record may have.
+const ROOM: usize = 1024;
+
+// The record `encode M T N MESSAGE ROOM`.
+pub fn encode(line: &[u8]) {
+    let mut message = [0u8; ROOM];
+    let mut codeword = [7u8; ROOM];
+    let length = fields::bytes(line, 4, &mut message);
+    let room = fields::room(line, 5, ROOM);
+    encode_to(line, &message[..length], &mut codeword[..room]);
+}
+
+// Encodes into the buffer, and prints the answer.
+fn encode_to(line: &[u8], message: &[u8], codeword: &mut [u8]) {
+    let m = fields::number(line, 1);
+    let t = fields::number(line, 2);
+    let n = fields::number(line, 3);
+    match encoder::encode(m, t, n, message, codeword) {
+        Encoded::Refused(r) => {
+            print::refused(r);
+        }
+        Encoded::Written => {
+            print::text(b"written");
+        }
+    }
+    print::buffer(codeword);
+    print::end();
+}
+
+// The record `hard M T N BITS ROOM`.
+pub fn hard(line: &[u8]) {
+    let mut bits = [0u8; ROOM];
+    let mut codeword = [7u8; ROOM];
+    let length = fields::bytes(line, 4, &mut bits);
+    let room = fields::room(line, 5, ROOM);
+    hard_to(line, &bits[..length], &mut codeword[..room]);
+}
+
+// Decodes bits into the buffer, and prints the answer.
+fn hard_to(line: &[u8], bits: &[u8], codeword: &mut [u8]) {
+    let m = fields::number(line, 1);
+    let t = fields::number(line, 2);
+    let n = fields::number(line, 3);
+    match receiver::decode_hard(m, t, n, bits, codeword) {
+        Hard::Refused(r) => {
+            print::refused(r);
+        }
+        Hard::Lost => {
+            print::text(b"lost");
+        }
+        Hard::Found(flips) => {
+            print::text(b"found");
+            print::number(flips);
+        }
+    }
+    print::buffer(codeword);
+    print::end();
+}
+
+// The record `soft M T N DEPTH SYMBOLS ROOM`: the totals with its answer.
+pub fn soft(line: &[u8], totals: Totals) -> Totals {
+    let mut symbols = [0u8; ROOM];
+    let mut codeword = [7u8; ROOM];
+    let length = fields::bytes(line, 5, &mut symbols);
+    let room = fields::room(line, 6, ROOM);
+    soft_to(line, totals, &symbols[..length], &mut codeword[..room])
+}
+
+// Decodes symbols into the buffer, prints the answer and counts it.
+fn soft_to(line: &[u8], totals: Totals, symbols: &[u8], codeword: &mut [u8]) -> Totals {
+    let m = fields::number(line, 1);
+    let t = fields::number(line, 2);
+    let n = fields::number(line, 3);
+    let depth = fields::number(line, 4);
+    let answer = receiver::decode_soft(m, t, n, depth, symbols, codeword);
+    print::soft(answer);
+    print::buffer(codeword);
+    print::end();
+    receiver::counted(totals, answer)
+}
