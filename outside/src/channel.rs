@@ -1,8 +1,10 @@
 //! Words sent over a channel with Gaussian noise to all decoders.
 
+use crate::archive::{decode_hard, decode_soft, encode};
 use crate::draw::Draw;
 use crate::error_rates::{message_length, Count, Decoder, Row, DECODERS};
-use bch_receiver::{decode_hard, decode_soft, encode, Code, Hard, Ladder, Soft};
+use crate::reference::{Code, Hard, Soft};
+use bch_receiver::Ladder;
 use std::thread;
 
 /// The threads, and the words of a block: fixed, so that the counts are the same on every machine.

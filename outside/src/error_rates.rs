@@ -1,6 +1,6 @@
 //! What is counted when words of a code are sent over a noisy channel and decoded, and the file of the counts.
 
-use bch_receiver::Code;
+use crate::reference::Code;
 use std::{fmt, fs, io, ops::AddAssign, path::Path, str::FromStr};
 use Decoder::{Absent, Hard, Soft};
 

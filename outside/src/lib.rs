@@ -1,5 +1,7 @@
 //! What the programs of this crate share.
 
+pub mod answers;
+pub mod archive;
 pub mod channel;
 pub mod draw;
 pub mod error_rates;

@@ -37,63 +37,10 @@
 #![deny(missing_docs)]
 #![warn(unsafe_op_in_unsafe_fn)]
 
-use std::fmt;
+#[doc(hidden)]
+pub mod raw;
 
-/// The calls of the archive, as `bindings/receiver.h` declares them. A slice is a pointer and a length. The caller sees to it that each pointer
-/// is valid for its length, and that a buffer that is written overlaps no other of the call; a call keeps no pointer. It answers one
-/// number, whose lowest byte is 128 or more for a refusal.
-mod raw {
-    extern "C" {
-        pub fn receiver_encode_packed(
-            m: usize,
-            t: usize,
-            n: usize,
-            message: *const u8,
-            message_length: usize,
-            codeword: *mut u8,
-            codeword_length: usize,
-        ) -> u64;
-        pub fn receiver_decode_hard_packed(
-            m: usize,
-            t: usize,
-            n: usize,
-            bits: *const u8,
-            bits_length: usize,
-            codeword: *mut u8,
-            codeword_length: usize,
-        ) -> u64;
-        pub fn receiver_decode_soft_packed(
-            m: usize,
-            t: usize,
-            n: usize,
-            depth: usize,
-            symbols: *const u8,
-            symbols_length: usize,
-            codeword: *mut u8,
-            codeword_length: usize,
-        ) -> u64;
-        pub fn receiver_check_ladder_packed(edges: *const f32, edges_length: usize) -> u64;
-        pub fn receiver_quantise_packed(
-            edges: *const f32,
-            edges_length: usize,
-            kinds: *const u8,
-            kinds_length: usize,
-            levels: *const f32,
-            levels_length: usize,
-            symbols: *mut u8,
-            symbols_length: usize,
-        ) -> u64;
-        pub fn receiver_open_take_packed(take: *const u8, take_length: usize) -> u64;
-        pub fn receiver_read_take_packed(
-            take: *const u8,
-            take_length: usize,
-            messages: *mut u8,
-            messages_length: usize,
-            marks: *mut u8,
-            marks_length: usize,
-        ) -> u64;
-    }
-}
+use std::fmt;
 
 /// A code, by its name. Any numbers may stand here; a call refuses those that name no code.
 #[derive(Clone, Copy, Debug, PartialEq, Eq)]
@@ -179,8 +126,9 @@ fn answered(number: u64) -> Result<u64, Refusal> {
 /// ```
 pub fn encode(code: Code, message: &[u8], codeword: &mut [u8]) -> Result<(), Refusal> {
     // Safety: pointers and lengths are those of slices, and one that is lent to be written overlaps no other.
-    let number =
-        unsafe { raw::receiver_encode_packed(code.m, code.t, code.n, message.as_ptr(), message.len(), codeword.as_mut_ptr(), codeword.len()) };
+    let number = unsafe {
+        raw::receiver_encode_packed(code.m, code.t, code.n, message.as_ptr(), message.len(), codeword.as_mut_ptr(), codeword.len())
+    };
     answered(number).map(|_| ())
 }
 
@@ -211,8 +159,9 @@ pub enum Hard {
 /// ```
 pub fn decode_hard(code: Code, bits: &[u8], codeword: &mut [u8]) -> Result<Hard, Refusal> {
     // Safety: pointers and lengths are those of slices, and one that is lent to be written overlaps no other.
-    let number =
-        unsafe { raw::receiver_decode_hard_packed(code.m, code.t, code.n, bits.as_ptr(), bits.len(), codeword.as_mut_ptr(), codeword.len()) };
+    let number = unsafe {
+        raw::receiver_decode_hard_packed(code.m, code.t, code.n, bits.as_ptr(), bits.len(), codeword.as_mut_ptr(), codeword.len())
+    };
     answered(number).map(|number| match number as u8 {
         0 => Hard::Lost,
         _ => Hard::Found { flips: (number >> 8) as usize },
@@ -317,7 +266,16 @@ impl Soft {
 pub fn decode_soft(code: Code, depth: usize, symbols: &[u8], codeword: &mut [u8]) -> Result<Soft, Refusal> {
     // Safety: pointers and lengths are those of slices, and one that is lent to be written overlaps no other.
     let number = unsafe {
-        raw::receiver_decode_soft_packed(code.m, code.t, code.n, depth, symbols.as_ptr(), symbols.len(), codeword.as_mut_ptr(), codeword.len())
+        raw::receiver_decode_soft_packed(
+            code.m,
+            code.t,
+            code.n,
+            depth,
+            symbols.as_ptr(),
+            symbols.len(),
+            codeword.as_mut_ptr(),
+            codeword.len(),
+        )
     };
     answered(number).map(|number| {
         let found = Found {

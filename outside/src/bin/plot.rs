@@ -1,7 +1,7 @@
 //! Draws `docs/error-rates.svg` from `docs/error-rates.tsv`: a panel for each code, a curve for each decoder.
 
-use bch_receiver::Code;
 use outside::error_rates::{codes, curve, name, read_rows, Decoder, Row, DECODERS};
+use outside::reference::Code;
 use std::{error::Error, fs, path::Path};
 
 const TITLE: &str = "Bit error rate of the receiver: hard decoding, and soft decoding at depth 1 to 6";

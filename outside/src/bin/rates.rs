@@ -5,9 +5,9 @@
 //!     rates --quick   few words, in some seconds; writes nothing
 //!     rates --steps   compares steps of the ladder, in a minute or two; writes nothing
 
-use bch_receiver::Code;
 use outside::channel::{Channel, Limit};
 use outside::error_rates::{codes, crossing, curve, message_length, name, nearest, write_rows, Decoder, Row, DECODERS};
+use outside::reference::Code;
 use std::{env, error::Error, fs, path::Path};
 
 /// The codes, each with its first and its last Eb/N0. Between them a point stands every half dB.

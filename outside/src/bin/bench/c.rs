@@ -1,5 +1,5 @@
 //! The encoder, the two decoders and the quantiser in C (c/core.h), and the clock (c/clock.c).
-use bch_receiver::{Code, Found, Hard, Soft, Totals};
+use outside::reference::{Code, Found, Hard, Soft, Totals};
 use std::time::Duration;
 
 /// The tables of a code, as C has them.

@@ -4,8 +4,8 @@ use crate::draw::{self, Noise};
 use crate::itpp::Itpp;
 use crate::row::{each, Column, Results, Row};
 use crate::table::{name, Line};
-use bch_receiver::{Code, Found, Hard, Refusal, Soft, Totals};
-use outside::reference::{self, Reference};
+use outside::archive;
+use outside::reference::{self, Code, Found, Hard, Reference, Refusal, Soft, Totals};
 
 /// How many different words a call on one word goes through, so that the processor does not learn one by heart.
 const WORDS: usize = 512;
@@ -25,7 +25,7 @@ pub fn encode(code: Code) -> Result<Line, String> {
     let messages = &draw::messages(code, WORDS);
     let reference = reference(code);
     let mut row = Row::new(WORDS, code.n);
-    row.add(Column::Receiver, each(|i, codeword| bch_receiver::encode(code, messages.at(i), codeword)));
+    row.add(Column::Receiver, each(|i, codeword| archive::encode(code, messages.at(i), codeword)));
     row.add(Column::Rust, each(|i, codeword| reference.encode(messages.at(i), codeword)));
     for c in Decoder::closed_form(code) {
         row.add(
@@ -47,7 +47,7 @@ pub fn hard(code: Code, errors: usize) -> Result<Line, String> {
     let words = &draw::wrong_words(code, errors, WORDS);
     let reference = reference(code);
     let mut row = Row::new(WORDS, code.n);
-    row.add(Column::Receiver, each(|i, codeword| bch_receiver::decode_hard(code, words.at(i), codeword)));
+    row.add(Column::Receiver, each(|i, codeword| archive::decode_hard(code, words.at(i), codeword)));
     row.add(Column::Rust, each(|i, codeword| reference.decode_hard(words.at(i), codeword)));
     for c in Decoder::textbook(code) {
         row.add(Column::Textbook, each(move |i, codeword| Ok(c.hard(words.at(i), codeword))));
@@ -63,7 +63,7 @@ pub fn hard(code: Code, errors: usize) -> Result<Line, String> {
         // Beyond t errors a decoder may answer what it likes.
         row.add_like(Column::Itpp, move |ours, theirs| errors > code.t || same_messages(code, ours, theirs), pass);
     }
-    let lost = |&i: &usize| bch_receiver::decode_hard(code, words.at(i), &mut vec![0; code.n]) == Ok(Hard::Lost);
+    let lost = |&i: &usize| archive::decode_hard(code, words.at(i), &mut vec![0; code.n]) == Ok(Hard::Lost);
     let case = format!("{} errors, {} of {} lost", errors, (0..WORDS).filter(lost).count(), WORDS);
     Line::measure("hard", name(code), case, WORDS, row)
 }
@@ -80,7 +80,7 @@ pub fn soft(code: Code, noise: Noise, depth: usize) -> Result<Line, String> {
     let words = &draw::noisy_words(code, noise, WORDS);
     let reference = reference(code);
     let mut row = Row::new(WORDS, code.n);
-    row.add(Column::Receiver, each(|i, codeword| bch_receiver::decode_soft(code, depth, words.at(i), codeword)));
+    row.add(Column::Receiver, each(|i, codeword| archive::decode_soft(code, depth, words.at(i), codeword)));
     row.add(Column::Rust, each(|i, codeword| reference.decode_soft(depth, words.at(i), codeword)));
     for c in Decoder::textbook(code) {
         let pass = each(move |i, codeword| Ok(c.soft(depth, words.at(i), codeword)));
@@ -112,7 +112,7 @@ pub fn read_take(code: Code, words: usize, noise: Noise, depth: usize) -> Result
     let take = &draw::take(code, depth, 0, &draw::noisy_words(code, noise, words));
     let symbols = &take[12..];
     let mut row = Row::new(1, words * (message_length(code) + 1));
-    row.add(Column::Receiver, reading(words, |messages, marks| bch_receiver::read_take(take, messages, marks)));
+    row.add(Column::Receiver, reading(words, |messages, marks| archive::read_take(take, messages, marks)));
     row.add(Column::Rust, reading(words, |messages, marks| reference::read_take(take, messages, marks)));
     for c in Decoder::textbook(code) {
         let pass = reading(words, move |messages, marks| Ok(c.read_words(depth, symbols, messages, marks)));
@@ -138,7 +138,7 @@ pub fn quantise(case: &str, blanks: bool) -> Result<Line, String> {
     let edges = &[1.0, 2.0, 3.0, 4.0, 5.0, 6.0, 7.0, 8.0, 9.0, 10.0, 11.0, 12.0, 13.0, 14.0, 15.0];
     let (kinds, levels) = (draw::kinds(blanks, SAMPLES, WORDS), draw::levels(SAMPLES, WORDS));
     let mut row = Row::new(WORDS, SAMPLES);
-    row.add(Column::Receiver, each(|i, symbols| bch_receiver::quantise(edges, kinds.at(i), levels.at(i), symbols)));
+    row.add(Column::Receiver, each(|i, symbols| archive::quantise(edges, kinds.at(i), levels.at(i), symbols)));
     row.add(Column::Rust, each(|i, symbols| reference::quantise(edges, kinds.at(i), levels.at(i), symbols)));
     row.add(
         Column::C,

@@ -1,6 +1,7 @@
 //! What the calls are timed on, drawn from a fixed seed.
-use bch_receiver::{encode, Code};
+use outside::archive::encode;
 use outside::draw::Draw;
+use outside::reference::Code;
 
 /// How strong the noise is: the sum of so many draws of -1, 0 and 1, where a bit is sent as the level 8 or -8.
 #[derive(Clone, Copy)]

@@ -1,5 +1,5 @@
 //! The BCH codes of IT++ (cpp/itpp.h).
-use bch_receiver::Code;
+use outside::reference::Code;
 
 /// A code, as IT++ has it.
 #[repr(C)]

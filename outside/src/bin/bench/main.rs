@@ -9,8 +9,8 @@ mod row;
 mod table;
 mod takelist;
 
-use bch_receiver::Code;
 use draw::{HEAVY, LIGHT};
+use outside::reference::Code;
 use std::fs;
 use std::process::ExitCode;
 use table::Line;

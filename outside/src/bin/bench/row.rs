@@ -1,6 +1,6 @@
 //! A row of the table: the same calls made in several ways, which are compared and then timed in turn.
 use crate::c::clock;
-use bch_receiver::Refusal;
+use outside::reference::Refusal;
 use std::time::Duration;
 
 /// How often each way is timed, and how long at least; a way that has used up the budget is timed no more.

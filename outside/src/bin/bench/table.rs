@@ -1,6 +1,6 @@
 //! The table: its lines, and its text, which is Markdown too.
 use crate::row::{lesser, Column, Row, Times, COLUMNS};
-use bch_receiver::Code;
+use outside::reference::Code;
 
 const NAMES: [&str; COLUMNS] = ["receiver", "Rust", "textbook C", "C", "IT++"];
 

@@ -2,7 +2,8 @@
 use crate::draw::{self, LIGHT};
 use crate::row::{Column, COLUMNS};
 use crate::table::{self, Line};
-use bch_receiver::{read_take, Code};
+use outside::archive::read_take;
+use outside::reference::Code;
 use std::fs::{self, File};
 use std::path::{Path, PathBuf};
 use std::process::{self, Command};

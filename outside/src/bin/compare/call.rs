@@ -1,7 +1,7 @@
 //! A call with all that it is handed: as text, and as run by the receiver or the reference.
 
-use bch_receiver::{Code, Hard, Header, Ladder, Refusal, Soft, Totals};
-use outside::reference;
+use outside::archive;
+use outside::reference::{self, Code, Hard, Header, Refusal, Soft, Totals};
 use std::fmt;
 
 /// A call's name and inputs.
@@ -60,14 +60,14 @@ pub struct Side {
     read_take: fn(&[u8], &mut [u8], &mut [u8]) -> Answered<Totals>,
 }
 
-pub const RECEIVER: Side = Side {
-    encode: bch_receiver::encode,
-    decode_hard: bch_receiver::decode_hard,
-    decode_soft: bch_receiver::decode_soft,
-    check_ladder: |edges| Ladder::new(edges).map(|_| ()),
-    quantise: bch_receiver::quantise,
-    open_take: bch_receiver::open_take,
-    read_take: bch_receiver::read_take,
+pub const ARCHIVE: Side = Side {
+    encode: archive::encode,
+    decode_hard: archive::decode_hard,
+    decode_soft: archive::decode_soft,
+    check_ladder: archive::check_ladder,
+    quantise: archive::quantise,
+    open_take: archive::open_take,
+    read_take: archive::read_take,
 };
 
 pub const REFERENCE: Side = Side {

@@ -2,9 +2,8 @@
 
 use crate::call::{Call, Request};
 use crate::facts::weakest;
-use bch_receiver::Code;
 use outside::draw::Draw;
-use outside::reference;
+use outside::reference::{self, Code};
 
 /// A call, and the codeword that its bits or symbols were made from, where there is one.
 pub struct Drawn {

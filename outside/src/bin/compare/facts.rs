@@ -1,8 +1,8 @@
 //! What document 01 says of every answer, whatever the reference says.
 
 use crate::call::{Answer, Call, Outcome, Request};
-use bch_receiver::{Code, Found, Hard, Soft};
 use outside::differences;
+use outside::reference::{Code, Found, Hard, Soft};
 
 /// The first fact that does not hold of the outcome. The word sent is known where the call's bits or symbols were made from it.
 pub fn broken(call: &Call, outcome: &Outcome, sent: Option<&[u8]>) -> Option<&'static str> {

@@ -7,7 +7,7 @@ mod drawn;
 mod facts;
 mod tally;
 
-use call::{hex, Call, Outcome, RECEIVER, REFERENCE};
+use call::{hex, Call, Outcome, ARCHIVE, REFERENCE};
 use drawn::Drawn;
 use outside::draw::Draw;
 use std::fmt;
@@ -72,7 +72,7 @@ struct Compared {
 
 impl Compared {
     fn new(call: &Call, sent: Option<&[u8]>) -> Compared {
-        let (receiver, reference) = (call.run(&RECEIVER), call.run(&REFERENCE));
+        let (receiver, reference) = (call.run(&ARCHIVE), call.run(&REFERENCE));
         let failure = if receiver != reference {
             Some("the outcomes differ".to_string())
         } else {

@@ -1,7 +1,7 @@
 //! What the calls of a run added up to.
 
 use crate::call::{Answer, Call, Outcome, Request, NAMES};
-use bch_receiver::{Code, Hard, Soft};
+use outside::reference::{Code, Hard, Soft};
 use std::collections::BTreeSet;
 use std::fmt;
 
