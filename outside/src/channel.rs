@@ -100,8 +100,7 @@ struct Link {
     draw: Draw,
     message: Vec<u8>,
     codeword: Vec<u8>,
-    kinds: Vec<u8>,
-    levels: Vec<f32>,
+    levels: Vec<Option<f32>>,
     symbols: Vec<u8>,
     bits: Vec<u8>,
     decoded: Vec<u8>,
@@ -118,8 +117,7 @@ impl Link {
             draw: Draw::new(seed),
             message: vec![0; message_length(code)],
             codeword: vec![0; code.n],
-            kinds: vec![1; code.n],
-            levels: vec![0.0; code.n],
+            levels: vec![None; code.n],
             symbols: vec![0; code.n],
             bits: vec![0; code.n],
             decoded: vec![0; code.n],
@@ -131,9 +129,9 @@ impl Link {
         self.draw.bits(&mut self.message);
         encode(self.code, &self.message, &mut self.codeword).unwrap();
         for (level, &bit) in self.levels.iter_mut().zip(&self.codeword) {
-            *level = 1.0 - 2.0 * f32::from(bit) + self.deviation * self.draw.gauss() as f32;
+            *level = Some(1.0 - 2.0 * f32::from(bit) + self.deviation * self.draw.gauss() as f32);
         }
-        self.ladder.quantise(&self.kinds, &self.levels, &mut self.symbols).unwrap();
+        self.ladder.quantise(&self.levels, &mut self.symbols).unwrap();
         for (bit, &symbol) in self.bits.iter_mut().zip(&self.symbols) {
             *bit = symbol / 16;
         }

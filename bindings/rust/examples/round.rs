@@ -2,17 +2,17 @@
 //! line has the totals.
 //!
 //!     cargo run --example round ../../examples/round.take
-use bch_receiver::read;
+use bch_receiver::Take;
 use std::{env, error::Error, fs};
 
 fn main() -> Result<(), Box<dyn Error>> {
     let path = env::args_os().nth(1).ok_or("usage: round FILE   (a take)")?;
-    let reading = read(&fs::read(path)?)?;
-    for (i, mark) in reading.marks().iter().enumerate() {
-        let bits = reading.message(i).map_or("-".to_string(), |message| message.iter().map(u8::to_string).collect());
+    let take = Take::read(&fs::read(path)?)?;
+    for (i, (mark, message)) in take.words().enumerate() {
+        let bits = message.map_or("-".to_string(), |message| message.iter().map(u8::to_string).collect());
         println!("{i} {mark} {bits}");
     }
-    let totals = reading.totals();
+    let totals = take.totals();
     println!("{} words: {} sure, {} fair, {} lost; {} tries", totals.words, totals.sure, totals.fair, totals.lost, totals.tries);
     Ok(())
 }
