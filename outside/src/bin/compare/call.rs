@@ -1,5 +1,6 @@
-//! A call with all that it is handed: as text, and as run by the receiver or the reference.
+//! A call with all that it is handed: as text, and as run by the archive, the crate or the reference.
 
+use crate::safe;
 use outside::archive;
 use outside::reference::{self, Code, Hard, Header, Refusal, Soft, Totals};
 use std::fmt;
@@ -68,6 +69,16 @@ pub const ARCHIVE: Side = Side {
     quantise: archive::quantise,
     open_take: archive::open_take,
     read_take: archive::read_take,
+};
+
+pub const CRATE: Side = Side {
+    encode: safe::encode,
+    decode_hard: safe::decode_hard,
+    decode_soft: safe::decode_soft,
+    check_ladder: safe::check_ladder,
+    quantise: safe::quantise,
+    open_take: safe::open_take,
+    read_take: safe::read_take,
 };
 
 pub const REFERENCE: Side = Side {

@@ -57,7 +57,7 @@ fn decode_soft(draw: &mut Draw) -> Drawn {
 
 fn quantise(draw: &mut Draw) -> Drawn {
     let edges = edges(draw);
-    let count = if draw.once_in(8) { draw.below(300) } else { draw.below(20) };
+    let count = if draw.once_in(8) { draw.below(600) } else { draw.below(20) };
     let kinds: Vec<u8> = (0..count).map(|_| draw.bit()).collect();
     let levels = kinds.iter().map(|&kind| if kind == 1 { level(draw, &edges) } else { any_float(draw) }).collect();
     lent(Request::Quantise { edges, kinds, levels }, &[count])

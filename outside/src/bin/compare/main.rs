@@ -1,13 +1,14 @@
-//! `compare [SEED] [WORDS]` draws calls of every kind until so many words were answered, and compares what the receiver and the reference
-//! answer and leave in the buffers. It ends with status 1 at the first difference and prints that call; `compare repeat [CALL]` repeats a
-//! call that is so printed, or read from standard input.
+//! `compare [SEED] [WORDS]` draws calls of every kind until so many words were answered, and holds what the archive answers and leaves in the
+//! buffers, called directly and through the crate `bch_receiver`, to the reference. It ends with status 1 at the first difference and prints
+//! that call; `compare repeat [CALL]` repeats a call that is so printed, or read from standard input.
 
 mod call;
 mod drawn;
 mod facts;
+mod safe;
 mod tally;
 
-use call::{hex, Call, Outcome, ARCHIVE, REFERENCE};
+use call::{hex, Call, Outcome, ARCHIVE, CRATE, REFERENCE};
 use drawn::Drawn;
 use outside::draw::Draw;
 use std::fmt;
@@ -44,7 +45,7 @@ fn run(seed: u64, words: usize) -> ExitCode {
             println!("call: {call}\nsent: {}\n{compared}", sent.as_deref().map_or("unknown".to_string(), hex));
             return ExitCode::FAILURE;
         }
-        tally.count(&call, &compared.receiver);
+        tally.count(&call, &compared.archive);
     }
     println!("{tally}{} words, 0 differences", tally.words());
     ExitCode::SUCCESS
@@ -63,28 +64,29 @@ fn read_line() -> Option<String> {
     Some(line)
 }
 
-/// Both outcomes of a call, and what is wrong with them.
+/// All outcomes of a call, and what is wrong with them.
 struct Compared {
-    receiver: Outcome,
+    archive: Outcome,
+    safe: Outcome,
     reference: Outcome,
     failure: Option<String>,
 }
 
 impl Compared {
     fn new(call: &Call, sent: Option<&[u8]>) -> Compared {
-        let (receiver, reference) = (call.run(&ARCHIVE), call.run(&REFERENCE));
-        let failure = if receiver != reference {
+        let (archive, safe, reference) = (call.run(&ARCHIVE), call.run(&CRATE), call.run(&REFERENCE));
+        let failure = if archive != reference || safe != reference {
             Some("the outcomes differ".to_string())
         } else {
-            facts::broken(call, &receiver, sent).map(|fact| format!("this does not hold: {fact}"))
+            facts::broken(call, &archive, sent).map(|fact| format!("this does not hold: {fact}"))
         };
-        Compared { receiver, reference, failure }
+        Compared { archive, safe, reference, failure }
     }
 }
 
 impl fmt::Display for Compared {
     fn fmt(&self, f: &mut fmt::Formatter<'_>) -> fmt::Result {
         let verdict = self.failure.as_deref().unwrap_or("no difference");
-        write!(f, "receiver: {}\nreference: {}\n{verdict}", self.receiver, self.reference)
+        write!(f, "archive: {}\ncrate: {}\nreference: {}\n{verdict}", self.archive, self.safe, self.reference)
     }
 }
