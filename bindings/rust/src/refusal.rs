@@ -143,3 +143,15 @@ pub(crate) fn answered(number: u64) -> Result<u64, Refusal> {
         _ => Ok(number),
     }
 }
+
+#[cfg(test)]
+mod tests {
+    use super::*;
+
+    #[test]
+    fn number_without_a_name() {
+        let refusal = answered(7 << 8 | (128 + 15)).unwrap_err();
+        assert_eq!((refusal.kind(), refusal.number(), refusal.place()), (RefusalKind::Unknown, 15, 7));
+        assert_eq!(answered(7 << 8 | 127), Ok(7 << 8 | 127));
+    }
+}
