@@ -27,6 +27,7 @@ pub fn add(sheet: &mut Sheet) {
     soft_words(sheet);
     sheet.part("soft: the order of the refusals, where a call has several causes");
     soft_order(sheet);
+    // Of these records six are not refused.
     assert_eq!(sheet.totals(), "6 3 1 2 76");
 }
 

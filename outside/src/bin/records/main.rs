@@ -92,3 +92,22 @@ fn codeword(code: Code, message: &[u8]) -> Vec<u8> {
     reference::encode(code, message, &mut codeword).expect("a code and its message");
     codeword
 }
+
+#[cfg(test)]
+mod tests {
+    use std::path::Path;
+
+    fn in_repository(file: &str) -> Vec<u8> {
+        let path = Path::new(env!("CARGO_MANIFEST_DIR")).join("..").join(file);
+        std::fs::read(&path).unwrap_or_else(|error| panic!("{}: {error}", path.display()))
+    }
+
+    /// The files in the repository are those that are made here; `tools/records --write` writes them.
+    #[test]
+    fn files_are_as_made() {
+        let sheet = super::all();
+        assert!(in_repository("crates/runner/stdin") == sheet.records.into_bytes(), "crates/runner/stdin differs");
+        assert!(in_repository("crates/runner/stdout") == sheet.answers.into_bytes(), "crates/runner/stdout differs");
+        assert!(in_repository("examples/round.take") == super::takes::round().bytes(), "examples/round.take differs");
+    }
+}

@@ -168,7 +168,7 @@ fn drawn_sample(edges: &[u32], mut draw: Xorshift) -> (u8, f32) {
 
 /// The pattern of a finite level: the sign is kept.
 fn finite(pattern: u32) -> u32 {
-    pattern & SIGN | (pattern & !SIGN) % INFINITY.to_bits()
+    (pattern & SIGN) + (pattern & !SIGN) % INFINITY.to_bits()
 }
 
 fn drawn(sheet: &mut Sheet) {

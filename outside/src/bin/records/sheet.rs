@@ -44,7 +44,7 @@ impl Sheet {
         self.answers += "\n";
     }
 
-    /// A call with the second implementation's answer, which is answered.
+    /// A call with the second implementation's answer, which is handed back.
     pub fn call(&mut self, call: Call) -> String {
         let answer = call.answer();
         self.add(&call.record(), &answer);
@@ -64,7 +64,7 @@ impl Sheet {
         assert_eq!(answer, call.answer(), "{}", call.record());
     }
 
-    /// A named call that is refused with this number and place.
+    /// A named call that is refused with this number and place, which the second implementation is held to.
     pub fn refused(&mut self, name: &str, call: Call, number: u8, place: usize) {
         self.heading(name);
         let answer = self.call(call);
@@ -72,7 +72,7 @@ impl Sheet {
         assert!(answer == refusal || answer.starts_with(&(refusal + " ")), "{name}: {answer}");
     }
 
-    /// The record `totals`. Its answer, which is answered, is read off the answers to the soft records since the last one.
+    /// The record `totals`. The totals, which are handed back, are read off the answers to the soft records since the last one.
     pub fn totals(&mut self) -> String {
         let answers = std::mem::take(&mut self.soft_answers);
         let count = |mark: &str| answers.iter().filter(|answer| answer.starts_with(mark)).count();
