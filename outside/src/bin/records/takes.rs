@@ -1,5 +1,5 @@
 //! Takes that are accepted: document 01's example and worked cases, to whose texts the answers are held, a measuring round, and takes of
-//! every m, t and depth and of many lengths, for which the second implementation answers.
+//! every m, t and depth and of many lengths, for which the second implementation answers. At the end some whose label is too long.
 
 use crate::call::Call;
 use crate::draw::Xorshift;
