@@ -1,11 +1,13 @@
 /*
- * Holds the calls in the archive to document 01 (docs/01-scope.md), as a program in C meets them: the worked cases of its small code, each
- * refusal that a call can give with its place, the order of the refusals, the buffers after a refusal or a lost word, and NULL with
- * length 0. Prints a line for each difference, and last how many checks were made; fails where there is a difference.
+ * Holds the calls of receiver.h to document 01 (docs/01-scope.md), as a program in C meets them: the worked cases of its small code, each
+ * refusal that a call can give with its place, the order of the refusals, all fields of an answer and the buffers after a refusal or a
+ * lost word, numbers that fill several bytes of the archive's answer, and NULL with length 0. Prints a line for each difference, and last
+ * how many checks were made; fails where there is a difference.
  */
 #include "receiver.h"
 
 #include <inttypes.h>
+#include <limits.h>
 #include <math.h>
 #include <stdio.h>
 #include <string.h>
@@ -21,16 +23,47 @@ static void check(int holds, const char *call, const char *input, const char *wh
     }
 }
 
-static void check_answer(uint64_t answer, uint64_t wanted, const char *call, const char *input)
-{
-    char what[80];
+/* ---- refusals */
 
-    snprintf(what, sizeof what, "answers %016" PRIx64 " and not %016" PRIx64, answer, wanted);
-    check(answer == wanted, call, input, what);
+static const receiver_refusal ACCEPTED = {0, 0};
+
+static receiver_refusal refused(unsigned number, uint64_t place) { return (receiver_refusal){number, place}; }
+
+static void check_refusal(receiver_refusal refusal, receiver_refusal wanted, const char *call, const char *input)
+{
+    char what[120];
+
+    snprintf(what, sizeof what, "refuses with %u at %" PRIu64 " and not %u at %" PRIu64, refusal.number, refusal.place, wanted.number,
+             wanted.place);
+    check(refusal.number == wanted.number && refusal.place == wanted.place, call, input, what);
 }
 
-/* The answer that is a refusal. */
-static uint64_t refused(unsigned number, uint64_t place) { return 128 + number + 256 * place; }
+static void check_text(unsigned number, const char *wanted)
+{
+    check(strcmp(receiver_refusal_text(number), wanted) == 0, "refusal_text", wanted, receiver_refusal_text(number));
+}
+
+static void check_texts(void)
+{
+    check_text(1, "m is outside 5 to 8");
+    check_text(2, "t is outside 1 to 3");
+    check_text(3, "n is outside m t + 1 to 2^m - 1");
+    check_text(4, "the depth is over 6");
+    check_text(5, "the edges are no ladder");
+    check_text(6, "an input's length is not the one that the call needs");
+    check_text(7, "an output's length is not exact");
+    check_text(8, "a bit is above 1");
+    check_text(9, "a symbol is above 31");
+    check_text(10, "a kind is above 1");
+    check_text(11, "a heard level is not a number");
+    check_text(12, "a take has fewer than 12 bytes");
+    check_text(13, "byte 7 of a take is not zero");
+    check_text(14, "a take's offset or length is wrong");
+    check_text(0, "unknown refusal");
+    check_text(15, "unknown refusal");
+    check_text(127, "unknown refusal");
+    check_text(UINT_MAX, "unknown refusal");
+}
 
 /* ---- buffers */
 
@@ -75,7 +108,32 @@ static size_t numbers(const char *digits, uint8_t *bytes)
 
 /* ---- the encoder and the hard stage, which take the same arguments */
 
-typedef uint64_t bits_call(size_t, size_t, size_t, const uint8_t *, size_t, uint8_t *, size_t);
+/* The fields of either answer; the encoder's has no more than the refusal. */
+struct bits_answer {
+    receiver_refusal refusal;
+    int found;
+    unsigned flips;
+};
+
+static const struct bits_answer ENCODED = {{0, 0}, 0, 0}, LOST = {{0, 0}, 0, 0};
+
+static struct bits_answer found(unsigned flips) { return (struct bits_answer){ACCEPTED, 1, flips}; }
+
+static struct bits_answer bits_refused(unsigned number, uint64_t place) { return (struct bits_answer){{number, place}, 0, 0}; }
+
+typedef struct bits_answer bits_call(size_t, size_t, size_t, const uint8_t *, size_t, uint8_t *, size_t);
+
+static struct bits_answer encode(size_t m, size_t t, size_t n, const uint8_t *message, size_t length, uint8_t *codeword, size_t room)
+{
+    return (struct bits_answer){receiver_encode(m, t, n, message, length, codeword, room).refusal, 0, 0};
+}
+
+static struct bits_answer decode_hard(size_t m, size_t t, size_t n, const uint8_t *bits, size_t length, uint8_t *codeword, size_t room)
+{
+    receiver_hard answer = receiver_decode_hard(m, t, n, bits, length, codeword, room);
+
+    return (struct bits_answer){answer.refusal, answer.found, answer.flips};
+}
 
 struct code {
     size_t m, t, n;
@@ -83,74 +141,95 @@ struct code {
 
 static const struct code E = {5, 1, 6};
 
-static void check_bits(bits_call *call, const char *name, struct code code, const char *bits, size_t room, uint64_t wanted,
+static void check_bits_answer(struct bits_answer answer, struct bits_answer wanted, const char *name, const char *input)
+{
+    check_refusal(answer.refusal, wanted.refusal, name, input);
+    check(answer.found == wanted.found && answer.flips == wanted.flips, name, input, "found or flips is another");
+}
+
+static void check_bits(bits_call *call, const char *name, struct code code, const char *bits, size_t room, struct bits_answer wanted,
                        const char *codeword)
 {
     uint8_t input[ROOM];
     size_t length = numbers(bits, input);
     struct lent output;
-    uint64_t answer = call(code.m, code.t, code.n, input, length, lend(&output), room);
 
-    check_answer(answer, wanted, name, bits);
+    check_bits_answer(call(code.m, code.t, code.n, input, length, lend(&output), room), wanted, name, bits);
     check(holds(&output, codeword), name, bits, "the codeword buffer is not as it should be");
+}
+
+static void check_bits_refused(bits_call *call, const char *name, struct code code, const char *bits, size_t room, unsigned number,
+                               uint64_t place)
+{
+    check_bits(call, name, code, bits, room, bits_refused(number, place), UNTOUCHED);
 }
 
 /* All faults at once, and then one fault less in each line: the refusals in their order. `bits` has the right length for (5, 1, 10). */
 static void check_bits_refusals(bits_call *call, const char *name, const char *bits)
 {
-    check_bits(call, name, (struct code){4, 0, 0}, "2", 11, refused(RECEIVER_REFUSED_M, 0), UNTOUCHED);
-    check_bits(call, name, (struct code){5, 0, 0}, "2", 11, refused(RECEIVER_REFUSED_T, 0), UNTOUCHED);
-    check_bits(call, name, (struct code){5, 1, 5}, "2", 11, refused(RECEIVER_REFUSED_N, 0), UNTOUCHED);
-    check_bits(call, name, (struct code){5, 1, 10}, "2", 11, refused(RECEIVER_REFUSED_INPUT_LENGTH, 0), UNTOUCHED);
-    check_bits(call, name, (struct code){5, 1, 10}, bits, 11, refused(RECEIVER_REFUSED_OUTPUT_LENGTH, 0), UNTOUCHED);
-    check_bits(call, name, (struct code){5, 1, 10}, bits, 9, refused(RECEIVER_REFUSED_OUTPUT_LENGTH, 0), UNTOUCHED);
-    check_bits(call, name, (struct code){5, 1, 10}, bits, 10, refused(RECEIVER_REFUSED_BIT, 3), UNTOUCHED);
+    check_bits_refused(call, name, (struct code){4, 0, 0}, "2", 11, RECEIVER_REFUSED_M, 0);
+    check_bits_refused(call, name, (struct code){5, 0, 0}, "2", 11, RECEIVER_REFUSED_T, 0);
+    check_bits_refused(call, name, (struct code){5, 1, 5}, "2", 11, RECEIVER_REFUSED_N, 0);
+    check_bits_refused(call, name, (struct code){5, 1, 10}, "2", 11, RECEIVER_REFUSED_INPUT_LENGTH, 0);
+    check_bits_refused(call, name, (struct code){5, 1, 10}, bits, 11, RECEIVER_REFUSED_OUTPUT_LENGTH, 0);
+    check_bits_refused(call, name, (struct code){5, 1, 10}, bits, 9, RECEIVER_REFUSED_OUTPUT_LENGTH, 0);
+    check_bits_refused(call, name, (struct code){5, 1, 10}, bits, 10, RECEIVER_REFUSED_BIT, 3);
 
-    check_bits(call, name, (struct code){9, 1, 10}, "0", 10, refused(RECEIVER_REFUSED_M, 0), UNTOUCHED);
-    check_bits(call, name, (struct code){SIZE_MAX, 1, 10}, "0", 10, refused(RECEIVER_REFUSED_M, 0), UNTOUCHED);
-    check_bits(call, name, (struct code){5, 4, 21}, "0", 21, refused(RECEIVER_REFUSED_T, 0), UNTOUCHED);
-    check_bits(call, name, (struct code){5, SIZE_MAX, 21}, "0", 21, refused(RECEIVER_REFUSED_T, 0), UNTOUCHED);
-    check_bits(call, name, (struct code){5, 1, 32}, "0", 32, refused(RECEIVER_REFUSED_N, 0), UNTOUCHED);
-    check_bits(call, name, (struct code){5, 1, SIZE_MAX}, "0", 32, refused(RECEIVER_REFUSED_N, 0), UNTOUCHED);
-    check_answer(call(5, 1, 6, NULL, 0, NULL, 0), refused(RECEIVER_REFUSED_INPUT_LENGTH, 0), name, "NULL");
+    check_bits_refused(call, name, (struct code){9, 1, 10}, "0", 10, RECEIVER_REFUSED_M, 0);
+    check_bits_refused(call, name, (struct code){SIZE_MAX, 1, 10}, "0", 10, RECEIVER_REFUSED_M, 0);
+    check_bits_refused(call, name, (struct code){5, 4, 21}, "0", 21, RECEIVER_REFUSED_T, 0);
+    check_bits_refused(call, name, (struct code){5, SIZE_MAX, 21}, "0", 21, RECEIVER_REFUSED_T, 0);
+    check_bits_refused(call, name, (struct code){5, 1, 32}, "0", 32, RECEIVER_REFUSED_N, 0);
+    check_bits_refused(call, name, (struct code){5, 1, SIZE_MAX}, "0", 32, RECEIVER_REFUSED_N, 0);
+    check_bits_answer(call(5, 1, 6, NULL, 0, NULL, 0), bits_refused(RECEIVER_REFUSED_INPUT_LENGTH, 0), name, "NULL");
 }
 
 static void check_encode(void)
 {
-    const char *call = "encode";
+    const char *name = "encode";
+    const uint8_t message[] = {1};
 
-    check_bits(receiver_encode_packed, call, E, "1", 6, 0, "101001");
-    check_bits(receiver_encode_packed, call, E, "0", 6, 0, "000000");
-    check_bits(receiver_encode_packed, call, (struct code){5, 1, 31}, "00000000000000000000000000", 31, 0, "0000000000000000000000000000000");
-    check_bits_refusals(receiver_encode_packed, call, "01022");
-    check_answer(receiver_encode_packed(5, 1, 6, (const uint8_t[]){1}, 1, NULL, 0), refused(RECEIVER_REFUSED_OUTPUT_LENGTH, 0), call,
-                 "a codeword that is NULL");
+    check_bits(encode, name, E, "1", 6, ENCODED, "101001");
+    check_bits(encode, name, E, "0", 6, ENCODED, "000000");
+    check_bits(encode, name, (struct code){5, 1, 31}, "00000000000000000000000000", 31, ENCODED, "0000000000000000000000000000000");
+    check_bits_refusals(encode, name, "01022");
+    check_bits_answer(encode(5, 1, 6, message, 1, NULL, 0), bits_refused(RECEIVER_REFUSED_OUTPUT_LENGTH, 0), name, "codeword NULL");
 }
-
-/* The hard stage's answer: 1 and the flips. */
-static uint64_t found(unsigned flips) { return 1 + 256 * flips; }
 
 static void check_decode_hard(void)
 {
-    const char *call = "decode_hard";
-    uint64_t lost = 0;
+    const char *name = "decode_hard";
 
-    check_bits(receiver_decode_hard_packed, call, E, "100000", 6, found(1), "000000");
-    check_bits(receiver_decode_hard_packed, call, E, "110000", 6, lost, UNTOUCHED);
-    check_bits(receiver_decode_hard_packed, call, E, "101000", 6, found(1), "101001");
-    check_bits(receiver_decode_hard_packed, call, E, "101001", 6, found(0), "101001");
-    check_bits_refusals(receiver_decode_hard_packed, call, "0002200000");
-    check(receiver_found(found(3)) && receiver_flips(found(3)) == 3, call, "3 flips", "not read as found with 3 flips");
-    check(!receiver_found(lost), call, "lost", "read as found");
+    check_bits(decode_hard, name, E, "100000", 6, found(1), "000000");
+    check_bits(decode_hard, name, E, "110000", 6, LOST, UNTOUCHED);
+    check_bits(decode_hard, name, E, "101000", 6, found(1), "101001");
+    check_bits(decode_hard, name, E, "101001", 6, found(0), "101001");
+    check_bits(decode_hard, name, (struct code){5, 3, 16}, "0100100000000001", 16, found(3), "0000000000000000");
+    check_bits_refusals(decode_hard, name, "0002200000");
 }
 
 /* ---- the soft stage */
 
+/* The fields of an answer that is no refusal. */
 struct soft {
-    unsigned mark, distance;
+    receiver_mark mark;
+    unsigned distance;
     int margin;
     unsigned flips, place, tries;
 };
+
+static void check_soft(receiver_soft answer, receiver_refusal refusal, struct soft wanted, const char *input)
+{
+    const char *call = "decode_soft";
+
+    check_refusal(answer.refusal, refusal, call, input);
+    check(answer.mark == wanted.mark, call, input, "another mark");
+    check(answer.distance == wanted.distance, call, input, "another distance");
+    check(answer.margin == wanted.margin, call, input, "another margin");
+    check(answer.flips == wanted.flips, call, input, "other flips");
+    check(answer.place == wanted.place, call, input, "another place");
+    check(answer.tries == wanted.tries, call, input, "other tries");
+}
 
 /* Symbols from bits and reliabilities, each a digit ('?' stands for 15, as in ASCII); returns how many. */
 static size_t symbols_of(const char *bits, const char *reliabilities, uint8_t *symbols)
@@ -165,32 +244,25 @@ static size_t symbols_of(const char *bits, const char *reliabilities, uint8_t *s
 static void check_found(const char *input, const char *bits, const char *reliabilities, size_t depth, struct soft wanted,
                         const char *codeword)
 {
-    const char *call = "decode_soft";
     uint8_t symbols[ROOM];
     size_t length = symbols_of(bits, reliabilities, symbols);
     struct lent output;
-    uint64_t answer = receiver_decode_soft_packed(5, 1, 6, depth, symbols, length, lend(&output), 6);
 
-    check(receiver_refusal(answer) == 0, call, input, "is refused");
-    check(receiver_mark(answer) == wanted.mark, call, input, "another mark");
-    check(receiver_distance(answer) == wanted.distance, call, input, "another distance");
-    check(receiver_margin(answer) == wanted.margin, call, input, "another margin");
-    check(receiver_flips(answer) == wanted.flips, call, input, "other flips");
-    check(receiver_place(answer) == wanted.place, call, input, "another place");
-    check(receiver_tries(answer) == wanted.tries, call, input, "other tries");
-    check(holds(&output, codeword), call, input, "the codeword buffer is not as it should be");
+    check_soft(receiver_decode_soft(5, 1, 6, depth, symbols, length, lend(&output), 6), ACCEPTED, wanted, input);
+    check(holds(&output, codeword), "decode_soft", input, "the codeword buffer is not as it should be");
 }
 
-static void check_soft_refused(struct code code, size_t depth, const char *bits, size_t room, uint64_t wanted)
+static const struct soft NOTHING = {RECEIVER_LOST, 0, 0, 0, 0, 0};
+
+static void check_soft_refused(struct code code, size_t depth, const char *bits, size_t room, unsigned number, uint64_t place)
 {
-    const char *call = "decode_soft";
     uint8_t symbols[ROOM];
     size_t length = symbols_of(bits, bits, symbols);
     struct lent output;
-    uint64_t answer = receiver_decode_soft_packed(code.m, code.t, code.n, depth, symbols, length, lend(&output), room);
+    receiver_soft answer = receiver_decode_soft(code.m, code.t, code.n, depth, symbols, length, lend(&output), room);
 
-    check_answer(answer, wanted, call, bits);
-    check(holds(&output, UNTOUCHED), call, bits, "a refusal wrote to the codeword buffer");
+    check_soft(answer, refused(number, place), NOTHING, bits);
+    check(holds(&output, UNTOUCHED), "decode_soft", bits, "a refusal wrote to the codeword buffer");
 }
 
 static void check_decode_soft(void)
@@ -204,16 +276,16 @@ static void check_decode_soft(void)
     check_found("reliability 15, depth 6", "000000", "??????", 6, (struct soft){RECEIVER_SURE, 0, 45, 0, 0, 1}, "000000");
 
     /* The digit 2 is the symbol 34, which is above 31. All faults at once, and then one fault less in each line. */
-    check_soft_refused((struct code){4, 0, 0}, 7, "2", 7, refused(RECEIVER_REFUSED_M, 0));
-    check_soft_refused((struct code){5, 0, 0}, 7, "2", 7, refused(RECEIVER_REFUSED_T, 0));
-    check_soft_refused((struct code){5, 1, 5}, 7, "2", 7, refused(RECEIVER_REFUSED_N, 0));
-    check_soft_refused(E, 7, "2", 7, refused(RECEIVER_REFUSED_DEPTH, 0));
-    check_soft_refused(E, SIZE_MAX, "2", 7, refused(RECEIVER_REFUSED_DEPTH, 0));
-    check_soft_refused(E, 6, "2", 7, refused(RECEIVER_REFUSED_INPUT_LENGTH, 0));
-    check_soft_refused(E, 6, "000022", 7, refused(RECEIVER_REFUSED_OUTPUT_LENGTH, 0));
-    check_soft_refused(E, 6, "000022", 5, refused(RECEIVER_REFUSED_OUTPUT_LENGTH, 0));
-    check_soft_refused(E, 6, "000022", 6, refused(RECEIVER_REFUSED_SYMBOL, 4));
-    check_answer(receiver_decode_soft_packed(5, 1, 6, 0, NULL, 0, NULL, 0), refused(RECEIVER_REFUSED_INPUT_LENGTH, 0), "decode_soft", "NULL");
+    check_soft_refused((struct code){4, 0, 0}, 7, "2", 7, RECEIVER_REFUSED_M, 0);
+    check_soft_refused((struct code){5, 0, 0}, 7, "2", 7, RECEIVER_REFUSED_T, 0);
+    check_soft_refused((struct code){5, 1, 5}, 7, "2", 7, RECEIVER_REFUSED_N, 0);
+    check_soft_refused(E, 7, "2", 7, RECEIVER_REFUSED_DEPTH, 0);
+    check_soft_refused(E, SIZE_MAX, "2", 7, RECEIVER_REFUSED_DEPTH, 0);
+    check_soft_refused(E, 6, "2", 7, RECEIVER_REFUSED_INPUT_LENGTH, 0);
+    check_soft_refused(E, 6, "000022", 7, RECEIVER_REFUSED_OUTPUT_LENGTH, 0);
+    check_soft_refused(E, 6, "000022", 5, RECEIVER_REFUSED_OUTPUT_LENGTH, 0);
+    check_soft_refused(E, 6, "000022", 6, RECEIVER_REFUSED_SYMBOL, 4);
+    check_soft(receiver_decode_soft(5, 1, 6, 0, NULL, 0, NULL, 0), refused(RECEIVER_REFUSED_INPUT_LENGTH, 0), NOTHING, "NULL");
 }
 
 /* ---- ladders and samples */
@@ -221,38 +293,38 @@ static void check_decode_soft(void)
 static const float EDGES[16] = {1, 2, 3, 4, 5, 6, 7, 8, 9, 10, 11, 12, 13, 14, 15, 16};
 
 /* A ladder with one edge changed. */
-static void check_edge(size_t position, float edge, uint64_t wanted, const char *input)
+static void check_edge(size_t position, float edge, receiver_refusal wanted, const char *input)
 {
     float edges[15];
 
     memcpy(edges, EDGES, sizeof edges);
     edges[position] = edge;
-    check_answer(receiver_check_ladder_packed(edges, 15), wanted, "check_ladder", input);
+    check_refusal(receiver_check_ladder(edges, 15).refusal, wanted, "check_ladder", input);
 }
 
 static void check_ladder(void)
 {
-    uint64_t no_ladder = refused(RECEIVER_REFUSED_LADDER, 0);
+    receiver_refusal no_ladder = refused(RECEIVER_REFUSED_LADDER, 0);
 
-    check_answer(receiver_check_ladder_packed(EDGES, 15), 0, "check_ladder", "1 to 15");
-    check_answer(receiver_check_ladder_packed(EDGES, 14), no_ladder, "check_ladder", "fourteen edges");
-    check_answer(receiver_check_ladder_packed(EDGES, 16), no_ladder, "check_ladder", "sixteen edges");
-    check_answer(receiver_check_ladder_packed(NULL, 0), no_ladder, "check_ladder", "NULL");
+    check_refusal(receiver_check_ladder(EDGES, 15).refusal, ACCEPTED, "check_ladder", "1 to 15");
+    check_refusal(receiver_check_ladder(EDGES, 14).refusal, no_ladder, "check_ladder", "fourteen edges");
+    check_refusal(receiver_check_ladder(EDGES, 16).refusal, no_ladder, "check_ladder", "sixteen edges");
+    check_refusal(receiver_check_ladder(NULL, 0).refusal, no_ladder, "check_ladder", "NULL");
     check_edge(0, 0.0f, no_ladder, "first edge zero");
     check_edge(7, 7.0f, no_ladder, "two edges equal");
     check_edge(7, NAN, no_ladder, "an edge that is not a number");
-    check_edge(14, INFINITY, 0, "last edge infinite");
+    check_edge(14, INFINITY, ACCEPTED, "last edge infinite");
 }
 
-static void check_samples(size_t edges, const char *kinds_text, const float *levels, size_t levels_length, size_t room, uint64_t wanted,
-                          const char *input)
+static void check_samples(size_t edges, const char *kinds_text, const float *levels, size_t levels_length, size_t room,
+                          receiver_refusal wanted, const char *input)
 {
     uint8_t kinds[ROOM];
     size_t kinds_length = numbers(kinds_text, kinds);
     struct lent output;
-    uint64_t answer = receiver_quantise_packed(EDGES, edges, kinds, kinds_length, levels, levels_length, lend(&output), room);
+    receiver_quantised answer = receiver_quantise(EDGES, edges, kinds, kinds_length, levels, levels_length, lend(&output), room);
 
-    check_answer(answer, wanted, "quantise", input);
+    check_refusal(answer.refusal, wanted, "quantise", input);
     check(holds(&output, UNTOUCHED), "quantise", input, "a refusal wrote to the symbols");
 }
 
@@ -263,10 +335,11 @@ static void check_quantise(void)
     const float bad[] = {1.0f, 1.0f, NAN, 1.0f};
     uint8_t symbols[8];
 
-    check_answer(receiver_quantise_packed(EDGES, 15, kinds, 8, levels, 8, symbols, 8), 0, "quantise", "eight samples");
+    check_refusal(receiver_quantise(EDGES, 15, kinds, 8, levels, 8, symbols, 8).refusal, ACCEPTED, "quantise", "eight samples");
     check(memcmp(symbols, wanted, 8) == 0, "quantise", "eight samples", "other symbols");
-    check_answer(receiver_quantise_packed(EDGES, 15, NULL, 0, NULL, 0, NULL, 0), 0, "quantise", "no samples, NULL");
-    check_answer(receiver_quantise_packed(NULL, 0, NULL, 0, NULL, 0, NULL, 0), refused(RECEIVER_REFUSED_LADDER, 0), "quantise", "edges NULL");
+    check_refusal(receiver_quantise(EDGES, 15, NULL, 0, NULL, 0, NULL, 0).refusal, ACCEPTED, "quantise", "no samples, NULL");
+    check_refusal(receiver_quantise(NULL, 0, NULL, 0, NULL, 0, NULL, 0).refusal, refused(RECEIVER_REFUSED_LADDER, 0), "quantise",
+                  "edges NULL");
 
     check_samples(14, "0112", bad, 3, 5, refused(RECEIVER_REFUSED_LADDER, 0), "every fault");
     check_samples(15, "0112", bad, 3, 5, refused(RECEIVER_REFUSED_INPUT_LENGTH, 0), "a level too few");
@@ -296,27 +369,53 @@ static const uint8_t MIXED[TAKE] = {
 /* No words, and a label of one byte. */
 static const uint8_t EMPTY[] = {0, 0, 8, 3, 255, 0, 6, 0, 13, 0, 1, 0, 'x'};
 
-static void check_open(const uint8_t *take, size_t length, uint64_t wanted, const char *input)
+static void check_open(const uint8_t *take, size_t length, receiver_header wanted, const char *input)
 {
-    check_answer(receiver_open_take_packed(take, length), wanted, "open_take", input);
+    const char *call = "open_take";
+    receiver_header header = receiver_open_take(take, length);
+
+    check_refusal(header.refusal, wanted.refusal, call, input);
+    check(header.words == wanted.words, call, input, "other words");
+    check(header.m == wanted.m, call, input, "another m");
+    check(header.t == wanted.t, call, input, "another t");
+    check(header.n == wanted.n, call, input, "another n");
+    check(header.k == wanted.k, call, input, "another k");
+    check(header.depth == wanted.depth, call, input, "another depth");
 }
 
-static void check_read(const uint8_t *take, size_t length, size_t messages_room, size_t marks_room, uint64_t wanted, const char *messages,
-                       const char *marks, const char *input)
+static void check_totals(receiver_totals totals, receiver_totals wanted, const char *input)
+{
+    const char *call = "read_take";
+
+    check_refusal(totals.refusal, wanted.refusal, call, input);
+    check(totals.words == wanted.words, call, input, "other words");
+    check(totals.sure == wanted.sure, call, input, "another number of sure words");
+    check(totals.fair == wanted.fair, call, input, "another number of fair words");
+    check(totals.lost == wanted.lost, call, input, "another number of lost words");
+    check(totals.tries == wanted.tries, call, input, "other tries");
+}
+
+static void check_read(const uint8_t *take, size_t length, size_t messages_room, size_t marks_room, receiver_totals wanted,
+                       const char *messages, const char *marks, const char *input)
 {
     struct lent messages_lent, marks_lent;
-    uint64_t answer = receiver_read_take_packed(take, length, lend(&messages_lent), messages_room, lend(&marks_lent), marks_room);
 
-    check_answer(answer, wanted, "read_take", input);
+    check_totals(receiver_read_take(take, length, lend(&messages_lent), messages_room, lend(&marks_lent), marks_room), wanted, input);
     check(holds(&messages_lent, messages), "read_take", input, "the messages are not as they should be");
     check(holds(&marks_lent, marks), "read_take", input, "the marks are not as they should be");
+}
+
+static void check_read_refused(const uint8_t *take, size_t length, size_t messages_room, size_t marks_room, unsigned number, uint64_t place,
+                               const char *input)
+{
+    check_read(take, length, messages_room, marks_room, (receiver_totals){{number, place}, 0, 0, 0, 0, 0}, UNTOUCHED, UNTOUCHED, input);
 }
 
 /* Both calls refuse a take alike. */
 static void check_take_refused(const uint8_t *take, size_t length, unsigned number, uint64_t place, const char *input)
 {
-    check_open(take, length, refused(number, place), input);
-    check_read(take, length, 2, 2, refused(number, place), UNTOUCHED, UNTOUCHED, input);
+    check_open(take, length, (receiver_header){{number, place}, 0, 0, 0, 0, 0, 0}, input);
+    check_read_refused(take, length, 2, 2, number, place, input);
 }
 
 static void check_take_refusals(void)
@@ -340,48 +439,54 @@ static void check_take_refusals(void)
     check_take_refused(take, TAKE, RECEIVER_REFUSED_TAKE_LENGTH, 0, "offset 13");
     take[8] = 12;
     check_take_refused(take, TAKE - 1, RECEIVER_REFUSED_TAKE_LENGTH, 0, "a symbol too few");
-    check_read(take, TAKE, 3, 2, refused(RECEIVER_REFUSED_OUTPUT_LENGTH, 0), UNTOUCHED, UNTOUCHED, "a message byte too many");
-    check_read(take, TAKE, 2, 1, refused(RECEIVER_REFUSED_OUTPUT_LENGTH, 0), UNTOUCHED, UNTOUCHED, "a mark too few");
+    check_read_refused(take, TAKE, 3, 2, RECEIVER_REFUSED_OUTPUT_LENGTH, 0, "a message byte too many");
+    check_read_refused(take, TAKE, 2, 1, RECEIVER_REFUSED_OUTPUT_LENGTH, 0, "a mark too few");
     check_take_refused(take, TAKE, RECEIVER_REFUSED_SYMBOL, 15, "a symbol of 32 at 15");
     take[15] = 31;
     check_take_refused(take, TAKE, RECEIVER_REFUSED_SYMBOL, 20, "a symbol of 255 at 20");
     take[20] = 31;
-    check(receiver_refusal(receiver_open_take_packed(take, TAKE)) == 0, "open_take", "symbols of 31", "is refused");
+    check_open(take, TAKE, (receiver_header){ACCEPTED, 2, 5, 1, 6, 1, 0}, "symbols of 31");
     check_take_refused(NULL, 0, RECEIVER_REFUSED_TAKE_HEADER, 0, "NULL");
 }
 
-static void check_header(const uint8_t *take, size_t length, size_t words, struct code code, size_t k, size_t depth, const char *input)
+enum { LENGTH = 6, FAIR = 1100, SURE = 300, MANY = FAIR + SURE };
+
+/* Case 9 so many times at depth 6, then case 10: the totals, and the place of a symbol, take more than one byte each. */
+static void check_many(void)
 {
-    uint64_t answer = receiver_open_take_packed(take, length);
+    static uint8_t take[12 + MANY * LENGTH], messages[MANY], marks[MANY];
+    const uint8_t header[12] = {MANY % 256, MANY / 256, 5, 1, LENGTH, 0, 6, 0, 12, 0, 0, 0};
+    size_t others = 0, bad = 12 + 1000 * LENGTH + 5;
+    const char *input = "1100 fair words and 300 sure";
 
-    check(receiver_refusal(answer) == 0, "open_take", input, "is refused");
-    check(receiver_take_words(answer) == words, "open_take", input, "other words");
-    check(receiver_take_m(answer) == code.m, "open_take", input, "another m");
-    check(receiver_take_t(answer) == code.t, "open_take", input, "another t");
-    check(receiver_take_n(answer) == code.n, "open_take", input, "another n");
-    check(receiver_take_k(answer) == k, "open_take", input, "another k");
-    check(receiver_take_depth(answer) == depth, "open_take", input, "another depth");
+    memcpy(take, header, sizeof header);
+    for (size_t i = 0; i < MANY; i++)
+        memcpy(take + 12 + i * LENGTH, MIXED + (i < FAIR ? 12 : 12 + LENGTH), LENGTH);
+    check_open(take, sizeof take, (receiver_header){ACCEPTED, MANY, 5, 1, LENGTH, 1, 6}, input);
+    check_totals(receiver_read_take(take, sizeof take, messages, MANY, marks, MANY),
+                 (receiver_totals){ACCEPTED, MANY, SURE, FAIR, 0, FAIR * 64 + SURE}, input);
+    for (size_t i = 0; i < MANY; i++)
+        others += messages[i] != (i < FAIR) || marks[i] != (i < FAIR ? RECEIVER_FAIR : RECEIVER_SURE);
+    check(others == 0, "read_take", input, "other messages or marks");
+
+    take[bad] = 32;
+    check_open(take, sizeof take, (receiver_header){{RECEIVER_REFUSED_SYMBOL, bad}, 0, 0, 0, 0, 0, 0}, "a symbol far behind");
 }
-
-/* The answer to reading a take. */
-static uint64_t totals(uint64_t sure, uint64_t fair, uint64_t tries) { return (sure << 8) + (fair << 24) + (tries << 40); }
 
 static void check_takes(void)
 {
-    uint64_t some = totals(1, 2, 3);
-
-    check_header(EXAMPLE, TAKE, 2, E, 1, 0, "the example");
-    check_header(EMPTY, sizeof EMPTY, 0, (struct code){8, 3, 255}, 231, 6, "no words");
-    check_read(EXAMPLE, TAKE, 2, 2, totals(1, 0, 2), "00", "20", "the example");
-    check_read(MIXED, TAKE, 2, 2, totals(1, 1, 17), "10", "12", "cases 9 and 10");
-    check_answer(receiver_read_take_packed(EMPTY, sizeof EMPTY, NULL, 0, NULL, 0), totals(0, 0, 0), "read_take", "no words, NULL");
-    check(receiver_total_sure(some) == 1 && receiver_total_fair(some) == 2 && receiver_total_tries(some) == 3, "read_take",
-          "totals 1, 2, 3", "not read as these");
+    check_open(EXAMPLE, TAKE, (receiver_header){ACCEPTED, 2, 5, 1, 6, 1, 0}, "the example");
+    check_open(EMPTY, sizeof EMPTY, (receiver_header){ACCEPTED, 0, 8, 3, 255, 231, 6}, "no words");
+    check_read(EXAMPLE, TAKE, 2, 2, (receiver_totals){ACCEPTED, 2, 1, 0, 1, 2}, "00", "20", "the example");
+    check_read(MIXED, TAKE, 2, 2, (receiver_totals){ACCEPTED, 2, 1, 1, 0, 17}, "10", "12", "cases 9 and 10");
+    check_totals(receiver_read_take(EMPTY, sizeof EMPTY, NULL, 0, NULL, 0), (receiver_totals){ACCEPTED, 0, 0, 0, 0, 0}, "no words, NULL");
+    check_many();
     check_take_refusals();
 }
 
 int main(void)
 {
+    check_texts();
     check_encode();
     check_decode_hard();
     check_decode_soft();

@@ -2,8 +2,10 @@
  * Every call of the receiver once, on a code of 63 bits that carry 51 message bits and repair 2 flips, and on the take that is named.
  *
  *     tools/archive
- *     cc -std=c11 -o target/example bindings/example.c target/staticlib/libreceiver_c.a
+ *     cc -o target/example bindings/example.c target/staticlib/libreceiver_c.a
  *     target/example examples/round.take
+ *
+ * After tools/install it is built by `cc $(pkg-config --cflags receiver) example.c $(pkg-config --libs receiver)`.
  */
 #include "receiver.h"
 
@@ -15,14 +17,13 @@ enum { M = 6, T = 2, N = 63, K = N - M * T, DEPTH = 4 };
 
 static const char *const mark_names[] = {"lost", "fair", "sure"};
 
-/* Hands an answer on, and ends the program where it is a refusal. */
-static uint64_t accepted(const char *call, uint64_t answer)
+/* Ends the program where a call refused. */
+static void accept(const char *call, receiver_refusal refusal)
 {
-    if (receiver_refusal(answer) != 0) {
-        fprintf(stderr, "%s: refused %u at %" PRIu64 "\n", call, receiver_refusal(answer), receiver_refusal_place(answer));
+    if (refusal.number != 0) {
+        fprintf(stderr, "%s: refused %u at %" PRIu64 ": %s\n", call, refusal.number, refusal.place, receiver_refusal_text(refusal.number));
         exit(1);
     }
-    return answer;
 }
 
 static void print_bits(const char *name, const uint8_t *bits, size_t length)
@@ -38,15 +39,17 @@ static void hard_stage(uint8_t codeword[N])
 {
     uint8_t message[K] = {1, 0, 1, 1, 0, 0, 1}, received[N];
 
-    accepted("encode", receiver_encode_packed(M, T, N, message, K, codeword, N));
+    receiver_encoded encoded = receiver_encode(M, T, N, message, K, codeword, N);
+    accept("encode", encoded.refusal);
     print_bits("message ", message, K);
     print_bits("codeword", codeword, N);
 
     for (size_t i = 0; i < N; i++)
         received[i] = codeword[i] ^ (i == 20 || i == 40);
-    uint64_t answer = accepted("decode_hard", receiver_decode_hard_packed(M, T, N, received, N, codeword, N));
-    if (receiver_found(answer))
-        printf("hard stage: %u flips\n", receiver_flips(answer));
+    receiver_hard hard = receiver_decode_hard(M, T, N, received, N, codeword, N);
+    accept("decode_hard", hard.refusal);
+    if (hard.found)
+        printf("hard stage: %u flips\n", hard.flips);
     else
         puts("hard stage: lost");
 }
@@ -59,7 +62,8 @@ static void soft_stage(uint8_t codeword[N])
 
     for (int i = 0; i < 15; i++)
         edges[i] = (float)(i + 1);
-    accepted("check_ladder", receiver_check_ladder_packed(edges, 15));
+    receiver_ladder ladder = receiver_check_ladder(edges, 15);
+    accept("check_ladder", ladder.refusal);
 
     for (size_t i = 0; i < N; i++) {
         kinds[i] = i != 30;     /* 1 heard, 0 blank */
@@ -67,37 +71,39 @@ static void soft_stage(uint8_t codeword[N])
         if (i % 16 == 5)
             levels[i] *= -0.2f;
     }
-    accepted("quantise", receiver_quantise_packed(edges, 15, kinds, N, levels, N, symbols, N));
+    receiver_quantised quantised = receiver_quantise(edges, 15, kinds, N, levels, N, symbols, N);
+    accept("quantise", quantised.refusal);
 
-    uint64_t answer = accepted("decode_soft", receiver_decode_soft_packed(M, T, N, DEPTH, symbols, N, codeword, N));
-    printf("soft stage: %s, distance %u, margin %d, flips %u, place %u, tries %u\n", mark_names[receiver_mark(answer)],
-           receiver_distance(answer), receiver_margin(answer), receiver_flips(answer), receiver_place(answer), receiver_tries(answer));
-    if (receiver_mark(answer) != RECEIVER_LOST)
+    receiver_soft soft = receiver_decode_soft(M, T, N, DEPTH, symbols, N, codeword, N);
+    accept("decode_soft", soft.refusal);
+    printf("soft stage: %s, distance %u, margin %d, flips %u, place %u, tries %u\n", mark_names[soft.mark], soft.distance, soft.margin,
+           soft.flips, soft.place, soft.tries);
+    if (soft.mark != RECEIVER_LOST)
         print_bits("message ", codeword + M * T, K);
 }
 
 /* Opens a take to learn how much room it needs, and reads it. */
 static void read_take(const uint8_t *take, size_t length)
 {
-    uint64_t opened = accepted("open_take", receiver_open_take_packed(take, length));
-    size_t words = receiver_take_words(opened), k = receiver_take_k(opened);
-    printf("take: %zu words of the code m %zu, t %zu, n %zu, depth %zu\n", words, receiver_take_m(opened), receiver_take_t(opened),
-           receiver_take_n(opened), receiver_take_depth(opened));
+    receiver_header header = receiver_open_take(take, length);
+    accept("open_take", header.refusal);
+    printf("take: %zu words of the code m %zu, t %zu, n %zu, depth %zu\n", header.words, header.m, header.t, header.n, header.depth);
 
-    uint8_t *messages = malloc(words * k), *marks = malloc(words);
-    if (words > 0 && (messages == NULL || marks == NULL)) {
-        fprintf(stderr, "no room for %zu words\n", words);
+    size_t bits = header.words * header.k;
+    uint8_t *messages = malloc(bits), *marks = malloc(header.words);
+    if (header.words > 0 && (messages == NULL || marks == NULL)) {
+        fprintf(stderr, "no room for %zu words\n", header.words);
         exit(1);
     }
-    uint64_t totals = accepted("read_take", receiver_read_take_packed(take, length, messages, words * k, marks, words));
-    for (size_t i = 0; i < words; i++) {
+    receiver_totals totals = receiver_read_take(take, length, messages, bits, marks, header.words);
+    accept("read_take", totals.refusal);
+    for (size_t i = 0; i < totals.words; i++) {
         if (marks[i] == RECEIVER_LOST)
             puts(mark_names[RECEIVER_LOST]);
         else
-            print_bits(mark_names[marks[i]], messages + i * k, k);
+            print_bits(mark_names[marks[i]], messages + i * header.k, header.k);
     }
-    size_t sure = receiver_total_sure(totals), fair = receiver_total_fair(totals);
-    printf("%zu words: %zu sure, %zu fair, %zu lost; %zu tries\n", words, sure, fair, words - sure - fair, receiver_total_tries(totals));
+    printf("%zu words: %zu sure, %zu fair, %zu lost; %zu tries\n", totals.words, totals.sure, totals.fair, totals.lost, totals.tries);
     free(messages);
     free(marks);
 }

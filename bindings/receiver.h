@@ -1,13 +1,40 @@
 /*
- * A soft-decision receiver of binary BCH codes, for C and C++. The calls are in libreceiver_c.a (tools/archive makes it); example.c shows
- * each of them. They are proved, for all inputs, to answer as docs/01-scope.md says; the functions here that read an answer are tested.
+ * A soft-decision receiver of binary BCH codes, for C (C99 or later) and C++ (C++11 or later). Its functions are in libreceiver_c.a, which
+ * tools/archive makes and tools/install puts in place with this header; they are proved, for all inputs, to answer as docs/01-scope.md
+ * says. What stands here hands arguments on to them and gives each answer back as a struct of the call's own type; that is tested.
+ * example.c makes each call once.
  *
  * A code is named by m (the field has 2^m elements, m 5 to 8), t (1 to 3 flips are repaired) and n (the length). It has m t parity bits,
  * k = n - m t message bits, and n is m t + 1 to 2^m - 1. A bit is one byte, 0 or 1. A symbol is one byte: 16 times the bit plus a
  * reliability of 0 to 15.
  *
- * Any values may be handed in, and a buffer of any length: a call answers, or it refuses and writes nothing. An answer is one number of
- * 64 bits, from which the functions below read what it says.
+ * Any values may be handed in, and a buffer of any length: a call answers, or it refuses and writes nothing. Look at `refusal.number`
+ * first, which every answer has: 0 means that the call did not refuse. One word of 63 symbols, at depth 4:
+ *
+ *     receiver_soft word = receiver_decode_soft(6, 2, 63, 4, symbols, 63, codeword, 63);
+ *     if (word.refusal.number != 0)
+ *         printf("refused: %s\n", receiver_refusal_text(word.refusal.number));
+ *     else if (word.mark == RECEIVER_LOST)
+ *         puts("lost");
+ *     else
+ *         printf("%s, distance %u, margin %d\n", word.mark == RECEIVER_SURE ? "sure" : "fair", word.distance, word.margin);
+ *
+ * A take, which is a measuring round of many words. Its header says how much room it needs (none, where it is refused):
+ *
+ *     receiver_header header = receiver_open_take(take, length);
+ *     size_t bits = header.words * header.k;
+ *     uint8_t *messages = malloc(bits + 1), *marks = malloc(header.words + 1);
+ *     if (header.refusal.number != 0) {
+ *         printf("refused: %s\n", receiver_refusal_text(header.refusal.number));
+ *     } else if (messages != NULL && marks != NULL) {
+ *         receiver_totals totals = receiver_read_take(take, length, messages, bits, marks, header.words);
+ *         for (size_t i = 0; i < totals.words; i++)
+ *             if (marks[i] != RECEIVER_LOST)
+ *                 printf("word %zu begins with bit %d\n", i, messages[i * header.k]);
+ *         printf("%zu words: %zu sure, %zu fair, %zu lost\n", totals.words, totals.sure, totals.fair, totals.lost);
+ *     }
+ *     free(messages);
+ *     free(marks);
  *
  * The caller must see to what no C compiler checks:
  * - each pointer is valid for as many elements as the length behind it says, and a `const float *` is aligned as a float is;
@@ -32,11 +59,13 @@ extern "C" {
 #define RECEIVER_STACK 32768
 
 /* The mark of a word in the soft stage's answer, and its byte in a take that was read. */
-enum {
+typedef enum receiver_mark {
     RECEIVER_LOST = 0,      /* the search found no codeword */
     RECEIVER_FAIR = 1,      /* of the codewords that the search found this is the nearest */
     RECEIVER_SURE = 2       /* no codeword of the whole code is nearer */
-};
+} receiver_mark;
+
+/* ---- refusals */
 
 /* Why a call refused. The place is 0 unless it is named here. */
 enum {
@@ -56,141 +85,261 @@ enum {
     RECEIVER_REFUSED_TAKE_LENGTH = 14       /* a take's words do not begin behind its label, or it does not end with its last symbol */
 };
 
-/* ---- the calls */
+/* Every answer has one. Where its number is not 0, all other fields of the answer are 0, and no buffer was written. */
+typedef struct receiver_refusal {
+    unsigned number;        /* 0 not refused, otherwise RECEIVER_REFUSED_.. */
+    uint64_t place;
+} receiver_refusal;
+
+/* The cause of a refusal by its number, in words. */
+static inline const char *receiver_refusal_text(unsigned number)
+{
+    switch (number) {
+    case RECEIVER_REFUSED_M: return "m is outside 5 to 8";
+    case RECEIVER_REFUSED_T: return "t is outside 1 to 3";
+    case RECEIVER_REFUSED_N: return "n is outside m t + 1 to 2^m - 1";
+    case RECEIVER_REFUSED_DEPTH: return "the depth is over 6";
+    case RECEIVER_REFUSED_LADDER: return "the edges are no ladder";
+    case RECEIVER_REFUSED_INPUT_LENGTH: return "an input's length is not the one that the call needs";
+    case RECEIVER_REFUSED_OUTPUT_LENGTH: return "an output's length is not exact";
+    case RECEIVER_REFUSED_BIT: return "a bit is above 1";
+    case RECEIVER_REFUSED_SYMBOL: return "a symbol is above 31";
+    case RECEIVER_REFUSED_KIND: return "a kind is above 1";
+    case RECEIVER_REFUSED_LEVEL: return "a heard level is not a number";
+    case RECEIVER_REFUSED_TAKE_HEADER: return "a take has fewer than 12 bytes";
+    case RECEIVER_REFUSED_TAKE_ZERO: return "byte 7 of a take is not zero";
+    case RECEIVER_REFUSED_TAKE_LENGTH: return "a take's offset or length is wrong";
+    default: return "unknown refusal";
+    }
+}
+
+/* ---- the archive's own calls
+ *
+ * For the functions further below alone, each of which reads the one that it is named after. They answer one number of 64 bits. Its byte 0,
+ * the lowest, is below 128, or 128 plus the number of a refusal, whose place then stands in bytes 1-7.
+ */
+
+/* 0 */
+uint64_t receiver_encode_packed(size_t m, size_t t, size_t n, const uint8_t *message, size_t message_length, uint8_t *codeword,
+                                size_t codeword_length);
+
+/* byte 0: 1 found, 0 lost; byte 1: the flips */
+uint64_t receiver_decode_hard_packed(size_t m, size_t t, size_t n, const uint8_t *bits, size_t bits_length, uint8_t *codeword,
+                                     size_t codeword_length);
+
+/* byte 0: the mark; byte 1: the flips; byte 2: the tries; byte 3: the place; bytes 4-5: the distance; bytes 6-7: 32768 + the margin */
+uint64_t receiver_decode_soft_packed(size_t m, size_t t, size_t n, size_t depth, const uint8_t *symbols, size_t symbols_length,
+                                     uint8_t *codeword, size_t codeword_length);
+
+/* 0 */
+uint64_t receiver_check_ladder_packed(const float *edges, size_t edges_length);
+
+/* 0 */
+uint64_t receiver_quantise_packed(const float *edges, size_t edges_length, const uint8_t *kinds, size_t kinds_length, const float *levels,
+                                  size_t levels_length, uint8_t *symbols, size_t symbols_length);
+
+/* byte 0: 0; bytes 1-2: the words; bytes 3-4: n; byte 5: m; byte 6: t; byte 7: the depth */
+uint64_t receiver_open_take_packed(const uint8_t *take, size_t take_length);
+
+/* byte 0: 0; bytes 1-2: how many words are sure; bytes 3-4: how many are fair; bytes 5-7: the tries of all words */
+uint64_t receiver_read_take_packed(const uint8_t *take, size_t take_length, uint8_t *messages, size_t messages_length, uint8_t *marks,
+                                   size_t marks_length);
+
+/* Internal: the refusal in such a number. */
+static inline receiver_refusal receiver_refusal_(uint64_t packed)
+{
+    receiver_refusal refusal;
+    int refused = (packed & 128) != 0;
+    refusal.number = refused ? (unsigned)(packed & 127) : 0;
+    refusal.place = refused ? packed >> 8 : 0;
+    return refusal;
+}
+
+/* Internal: what so many of its bytes hold, from byte `first` on; 0 where it is a refusal. */
+static inline unsigned receiver_bytes_(uint64_t packed, unsigned first, unsigned count)
+{
+    return (packed & 128) != 0 ? 0 : (unsigned)((packed >> (8 * first)) & ((UINT64_C(1) << (8 * count)) - 1));
+}
+
+/* ---- encoding */
+
+typedef struct receiver_encoded {
+    receiver_refusal refusal;
+} receiver_encoded;
 
 /*
  * Writes the codeword that carries a message: parity at positions 0 to m t - 1, the message behind it.
  * Takes k message bits; writes n bits.
- * Answers 0, or refuses with the first of 1, 2, 3, 6, 7, 8 that applies; `codeword` is then as it was.
+ * Refuses with the first of 1, 2, 3, 6, 7, 8 that applies; `codeword` is then as it was.
  */
-uint64_t receiver_encode_packed(size_t m, size_t t, size_t n, const uint8_t *message, size_t message_length, uint8_t *codeword,
-                         size_t codeword_length);
+static inline receiver_encoded receiver_encode(size_t m, size_t t, size_t n, const uint8_t *message, size_t message_length,
+                                               uint8_t *codeword, size_t codeword_length)
+{
+    uint64_t packed = receiver_encode_packed(m, t, n, message, message_length, codeword, codeword_length);
+    receiver_encoded answer;
+    answer.refusal = receiver_refusal_(packed);
+    return answer;
+}
+
+/* ---- the hard stage */
+
+typedef struct receiver_hard {
+    receiver_refusal refusal;
+    int found;              /* 1 found, 0 lost */
+    unsigned flips;         /* in how many positions the codeword differs from the bits; 0 where lost */
+} receiver_hard;
 
 /*
- * The hard stage: writes the codeword that differs from a word in at most t positions, where there is one.
+ * Writes the codeword that differs from a word in at most t positions, where there is one.
  * Takes n bits; writes n bits.
- * Answers found, with the flips, or lost; or refuses with the first of 1, 2, 3, 6, 7, 8 that applies. Lost or refused, `codeword` is as it
- * was.
- *
- *     byte 0      1 found, 0 lost     receiver_found
- *     byte 1      the flips           receiver_flips
+ * Refuses with the first of 1, 2, 3, 6, 7, 8 that applies. Lost or refused, `codeword` is as it was.
  */
-uint64_t receiver_decode_hard_packed(size_t m, size_t t, size_t n, const uint8_t *bits, size_t bits_length, uint8_t *codeword,
-                              size_t codeword_length);
+static inline receiver_hard receiver_decode_hard(size_t m, size_t t, size_t n, const uint8_t *bits, size_t bits_length, uint8_t *codeword,
+                                                 size_t codeword_length)
+{
+    uint64_t packed = receiver_decode_hard_packed(m, t, n, bits, bits_length, codeword, codeword_length);
+    receiver_hard answer;
+    answer.refusal = receiver_refusal_(packed);
+    answer.found = receiver_bytes_(packed, 0, 1) == 1;
+    answer.flips = receiver_bytes_(packed, 1, 1);
+    return answer;
+}
+
+/* ---- the soft stage */
 
 /*
- * The soft stage: tries every flip of the `depth` least reliable bits by the hard stage, until a codeword is sure, and writes the nearest
- * codeword that it finds. Of equally reliable bits the lower position counts as the weaker, and of equally near codewords the first is
- * taken. Takes n symbols, depth 0 to 6; writes n bits.
- * Answers a mark with its numbers, or refuses with the first of 1, 2, 3, 4, 6, 7, 9 that applies. Lost or refused, `codeword` is as it was.
- * All numbers of a lost word but its tries are 0.
- *
- *     byte 0      the mark                                                        receiver_mark
- *     byte 1      the flips: how many bits the codeword changes                   receiver_flips
- *     byte 2      the tries: how many words went to the hard stage                receiver_tries
- *     byte 3      the place: which of these gave the codeword, from 0             receiver_place
- *     bytes 4-5   the distance: the reliabilities of the changed bits, added up   receiver_distance
- *     bytes 6-7   32768 + the margin                                              receiver_margin
- *
- * Every other codeword has at least the distance plus the margin, and a codeword found is sure exactly where its margin is 0 or more. The
- * margin of a lost word is 0 too: look at the mark first.
+ * All fields of a lost word but its tries are 0. Every other codeword has at least the distance plus the margin, and a codeword found is
+ * sure exactly where its margin is 0 or more. The margin of a lost word is 0 too: look at the mark first.
  */
-uint64_t receiver_decode_soft_packed(size_t m, size_t t, size_t n, size_t depth, const uint8_t *symbols, size_t symbols_length,
-                              uint8_t *codeword, size_t codeword_length);
+typedef struct receiver_soft {
+    receiver_refusal refusal;
+    receiver_mark mark;
+    unsigned distance;      /* the reliabilities of the changed bits, added up */
+    int margin;
+    unsigned flips;         /* how many bits the codeword changes */
+    unsigned place;         /* which of the words that were tried gave the codeword, from 0 */
+    unsigned tries;         /* how many words went to the hard stage */
+} receiver_soft;
+
+/*
+ * Tries every flip of the `depth` least reliable bits by the hard stage, until a codeword is sure, and writes the nearest codeword that it
+ * finds. Of equally reliable bits the lower position counts as the weaker, and of equally near codewords the first is taken.
+ * Takes n symbols, depth 0 to 6; writes n bits.
+ * Refuses with the first of 1, 2, 3, 4, 6, 7, 9 that applies. Lost or refused, `codeword` is as it was.
+ */
+static inline receiver_soft receiver_decode_soft(size_t m, size_t t, size_t n, size_t depth, const uint8_t *symbols, size_t symbols_length,
+                                                 uint8_t *codeword, size_t codeword_length)
+{
+    uint64_t packed = receiver_decode_soft_packed(m, t, n, depth, symbols, symbols_length, codeword, codeword_length);
+    receiver_soft answer;
+    answer.refusal = receiver_refusal_(packed);
+    answer.mark = (receiver_mark)receiver_bytes_(packed, 0, 1);
+    answer.distance = receiver_bytes_(packed, 4, 2);
+    answer.margin = answer.refusal.number != 0 ? 0 : (int)receiver_bytes_(packed, 6, 2) - 32768;
+    answer.flips = receiver_bytes_(packed, 1, 1);
+    answer.place = receiver_bytes_(packed, 3, 1);
+    answer.tries = receiver_bytes_(packed, 2, 1);
+    return answer;
+}
+
+/* ---- samples */
+
+typedef struct receiver_ladder {
+    receiver_refusal refusal;
+} receiver_ladder;
 
 /*
  * Checks a ladder: fifteen edges, the first above zero and each above the one before.
- * Answers 0, or refuses with 5. Writes nothing.
+ * Refuses with 5. Writes nothing.
  */
-uint64_t receiver_check_ladder_packed(const float *edges, size_t edges_length);
+static inline receiver_ladder receiver_check_ladder(const float *edges, size_t edges_length)
+{
+    uint64_t packed = receiver_check_ladder_packed(edges, edges_length);
+    receiver_ladder answer;
+    answer.refusal = receiver_refusal_(packed);
+    return answer;
+}
+
+typedef struct receiver_quantised {
+    receiver_refusal refusal;
+} receiver_quantised;
 
 /*
  * Writes the symbol of each sample by a ladder. A sample is a kind, 0 blank or 1 heard, and a level. A blank gives the symbol 0, and its
  * level is not looked at. A heard level below zero gives bit 1, otherwise bit 0; its reliability is the number of edges that are at most
  * its magnitude. Levels may be infinite.
  * Takes fifteen edges, and equally many kinds and levels; writes as many symbols.
- * Answers 0, or refuses with the first of 5, 6, 7 that applies, and then with 10 or 11 for the first sample that has a fault, where a kind
- * above 1 gives 10 whatever the level; `symbols` is then as it was.
+ * Refuses with the first of 5, 6, 7 that applies, and then with 10 or 11 for the first sample that has a fault, where a kind above 1 gives
+ * 10 whatever the level; `symbols` is then as it was.
  */
-uint64_t receiver_quantise_packed(const float *edges, size_t edges_length, const uint8_t *kinds, size_t kinds_length, const float *levels,
-                           size_t levels_length, uint8_t *symbols, size_t symbols_length);
+static inline receiver_quantised receiver_quantise(const float *edges, size_t edges_length, const uint8_t *kinds, size_t kinds_length,
+                                                   const float *levels, size_t levels_length, uint8_t *symbols, size_t symbols_length)
+{
+    uint64_t packed = receiver_quantise_packed(edges, edges_length, kinds, kinds_length, levels, levels_length, symbols, symbols_length);
+    receiver_quantised answer;
+    answer.refusal = receiver_refusal_(packed);
+    return answer;
+}
+
+/* ---- takes */
+
+/* What the header of a take says. To read the take needs words k bytes for its messages and `words` for its marks. */
+typedef struct receiver_header {
+    receiver_refusal refusal;
+    size_t words;
+    size_t m, t, n;         /* the code of its words */
+    size_t k;               /* the message length n - m t of that code */
+    size_t depth;           /* the depth of the search */
+} receiver_header;
 
 /*
- * Checks a take whole and answers what its header says of its words. A take is a measuring round of many words. Its bytes, two-byte
- * numbers with the low byte first: 0-1 the word count W, 2 m, 3 t, 4-5 n, 6 the depth, 7 zero, 8-9 where the words begin, 10-11 the
- * length of the label; then the label (any bytes), and W times n symbols.
+ * Checks a take whole and answers what its header says. A take's bytes, two-byte numbers with the low byte first: 0-1 the word count W,
+ * 2 m, 3 t, 4-5 n, 6 the depth, 7 zero, 8-9 where the words begin, 10-11 the length of the label; then the label (any bytes), and W times
+ * n symbols.
  * Refuses with the first of 12, 13, 1, 2, 3, 4, 14, 9 that applies. Writes nothing.
- *
- *     byte 0      0
- *     bytes 1-2   W           receiver_take_words
- *     bytes 3-4   n           receiver_take_n
- *     byte 5      m           receiver_take_m
- *     byte 6      t           receiver_take_t
- *     byte 7      the depth   receiver_take_depth
  */
-uint64_t receiver_open_take_packed(const uint8_t *take, size_t take_length);
+static inline receiver_header receiver_open_take(const uint8_t *take, size_t take_length)
+{
+    uint64_t packed = receiver_open_take_packed(take, take_length);
+    receiver_header answer;
+    answer.refusal = receiver_refusal_(packed);
+    answer.words = receiver_bytes_(packed, 1, 2);
+    answer.m = receiver_bytes_(packed, 5, 1);
+    answer.t = receiver_bytes_(packed, 6, 1);
+    answer.n = receiver_bytes_(packed, 3, 2);
+    answer.k = answer.n - answer.m * answer.t;
+    answer.depth = receiver_bytes_(packed, 7, 1);
+    return answer;
+}
+
+/* What the words of a take add up to. */
+typedef struct receiver_totals {
+    receiver_refusal refusal;
+    size_t words;           /* how many there are: sure + fair + lost */
+    size_t sure, fair, lost;
+    size_t tries;           /* the tries of all words */
+} receiver_totals;
 
 /*
  * Reads a take: each of its words goes to the soft stage at the take's depth.
- * Writes W k message bits, word after word, and W marks. The message bits of a lost word are 0.
- * Answers the totals, or refuses with the first of 12, 13, 1, 2, 3, 4, 14, 7, 9 that applies; `messages` and `marks` are then as they were.
- *
- *     byte 0      0
- *     bytes 1-2   how many words are sure     receiver_total_sure
- *     bytes 3-4   how many are fair           receiver_total_fair
- *     bytes 5-7   the tries of all words      receiver_total_tries
- *
- * There are `marks_length` words; those that are neither sure nor fair are lost.
+ * Writes W k message bits, word after word, and W marks (RECEIVER_LOST, RECEIVER_FAIR, RECEIVER_SURE). The message bits of a lost word
+ * are 0.
+ * Refuses with the first of 12, 13, 1, 2, 3, 4, 14, 7, 9 that applies; `messages` and `marks` are then as they were. A take that
+ * receiver_open_take accepts is refused only where the lengths of the buffers are not W k and W.
  */
-uint64_t receiver_read_take_packed(const uint8_t *take, size_t take_length, uint8_t *messages, size_t messages_length, uint8_t *marks,
-                            size_t marks_length);
-
-/* ---- what an answer says */
-
-/* The number that so many bytes of an answer hold, from byte `first` on; byte 0 is the lowest. */
-static inline unsigned receiver_bytes(uint64_t answer, unsigned first, unsigned count)
+static inline receiver_totals receiver_read_take(const uint8_t *take, size_t take_length, uint8_t *messages, size_t messages_length,
+                                                 uint8_t *marks, size_t marks_length)
 {
-    return (unsigned)((answer >> (8 * first)) & ((UINT64_C(1) << (8 * count)) - 1));
+    uint64_t packed = receiver_read_take_packed(take, take_length, messages, messages_length, marks, marks_length);
+    receiver_totals answer;
+    answer.refusal = receiver_refusal_(packed);
+    answer.words = answer.refusal.number != 0 ? 0 : marks_length;
+    answer.sure = receiver_bytes_(packed, 1, 2);
+    answer.fair = receiver_bytes_(packed, 3, 2);
+    answer.lost = answer.words - answer.sure - answer.fair;
+    answer.tries = receiver_bytes_(packed, 5, 3);
+    return answer;
 }
-
-/* Of any answer: 0, or the number of the refusal (RECEIVER_REFUSED_..). The functions further below are for answers that are no refusal. */
-static inline unsigned receiver_refusal(uint64_t answer)
-{
-    unsigned low = receiver_bytes(answer, 0, 1);
-    return low < 128 ? 0 : low - 128;
-}
-
-/* Of a refusal: the place. */
-static inline uint64_t receiver_refusal_place(uint64_t answer) { return answer >> 8; }
-
-/* Of the hard stage's answer: 1 found, 0 lost. Its flips are read by receiver_flips. */
-static inline int receiver_found(uint64_t answer) { return receiver_bytes(answer, 0, 1) == 1; }
-
-/* Of the soft stage's answer. */
-static inline unsigned receiver_mark(uint64_t answer) { return receiver_bytes(answer, 0, 1); }
-static inline unsigned receiver_flips(uint64_t answer) { return receiver_bytes(answer, 1, 1); }
-static inline unsigned receiver_tries(uint64_t answer) { return receiver_bytes(answer, 2, 1); }
-static inline unsigned receiver_place(uint64_t answer) { return receiver_bytes(answer, 3, 1); }
-static inline unsigned receiver_distance(uint64_t answer) { return receiver_bytes(answer, 4, 2); }
-static inline int receiver_margin(uint64_t answer) { return (int)receiver_bytes(answer, 6, 2) - 32768; }
-
-/* Of the answer to opening a take. */
-static inline size_t receiver_take_words(uint64_t answer) { return receiver_bytes(answer, 1, 2); }
-static inline size_t receiver_take_n(uint64_t answer) { return receiver_bytes(answer, 3, 2); }
-static inline size_t receiver_take_m(uint64_t answer) { return receiver_bytes(answer, 5, 1); }
-static inline size_t receiver_take_t(uint64_t answer) { return receiver_bytes(answer, 6, 1); }
-static inline size_t receiver_take_depth(uint64_t answer) { return receiver_bytes(answer, 7, 1); }
-
-/* The message length k = n - m t of its code. */
-static inline size_t receiver_take_k(uint64_t answer)
-{
-    return receiver_take_n(answer) - receiver_take_m(answer) * receiver_take_t(answer);
-}
-
-/* Of the answer to reading a take. */
-static inline size_t receiver_total_sure(uint64_t answer) { return receiver_bytes(answer, 1, 2); }
-static inline size_t receiver_total_fair(uint64_t answer) { return receiver_bytes(answer, 3, 2); }
-static inline size_t receiver_total_tries(uint64_t answer) { return receiver_bytes(answer, 5, 3); }
 
 #ifdef __cplusplus
 }

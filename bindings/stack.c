@@ -19,17 +19,17 @@ static uint8_t message[LONGEST], codeword[LONGEST], bits[LONGEST], kinds[LONGEST
 static uint8_t output[LONGEST], mark;
 static float edges[15], levels[LONGEST];
 
-static uint64_t encode(void) { return receiver_encode_packed(m, t, n, message, k, output, n); }
-static uint64_t decode_hard(void) { return receiver_decode_hard_packed(m, t, n, bits, n, output, n); }
-static uint64_t decode_soft(void) { return receiver_decode_soft_packed(m, t, n, DEPTH, symbols, n, output, n); }
-static uint64_t check_ladder(void) { return receiver_check_ladder_packed(edges, 15); }
-static uint64_t quantise(void) { return receiver_quantise_packed(edges, 15, kinds, n, levels, n, output, n); }
-static uint64_t open_take(void) { return receiver_open_take_packed(take, HEADER + n); }
-static uint64_t read_take(void) { return receiver_read_take_packed(take, HEADER + n, output, k, &mark, 1); }
+static receiver_refusal encode(void) { return receiver_encode(m, t, n, message, k, output, n).refusal; }
+static receiver_refusal decode_hard(void) { return receiver_decode_hard(m, t, n, bits, n, output, n).refusal; }
+static receiver_refusal decode_soft(void) { return receiver_decode_soft(m, t, n, DEPTH, symbols, n, output, n).refusal; }
+static receiver_refusal check_ladder(void) { return receiver_check_ladder(edges, 15).refusal; }
+static receiver_refusal quantise(void) { return receiver_quantise(edges, 15, kinds, n, levels, n, output, n).refusal; }
+static receiver_refusal open_take(void) { return receiver_open_take(take, HEADER + n).refusal; }
+static receiver_refusal read_take(void) { return receiver_read_take(take, HEADER + n, output, k, &mark, 1).refusal; }
 
 static struct call {
     const char *name;
-    uint64_t (*make)(void);
+    receiver_refusal (*make)(void);
     size_t most;
 } calls[] = {
     {"encode", encode, 0},
@@ -58,7 +58,7 @@ static void *measured(void *argument)
     uint8_t here;
     size_t lowest = 0;
 
-    if (receiver_refusal(call->make()) != 0)
+    if (call->make().number != 0)
         stop("a call refused");
     while (stack[lowest] == PATTERN)
         lowest++;
@@ -87,7 +87,7 @@ static void fill(size_t wrong)
 
     for (size_t i = 0; i < k; i++)
         message[i] = i % 3 == 0;
-    if (receiver_encode_packed(m, t, n, message, k, codeword, n) != 0)
+    if (receiver_encode(m, t, n, message, k, codeword, n).refusal.number != 0)
         stop("encode refused");
     memcpy(take, header, HEADER);
     for (size_t i = 0; i < n; i++) {
