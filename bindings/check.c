@@ -269,6 +269,7 @@ static void check_decode_soft(void)
 {
     check_found("case 5", "110000", "115555", 2, (struct soft){RECEIVER_FAIR, 2, -1, 2, 1, 4}, "000000");
     check_found("case 6", "110000", "115555", 0, (struct soft){RECEIVER_LOST, 0, 0, 0, 0, 1}, UNTOUCHED);
+    check_found("lost at depth 1", "110000", "555551", 1, (struct soft){RECEIVER_LOST, 0, 0, 0, 0, 2}, UNTOUCHED);
     check_found("case 7", "000000", "000000", 0, (struct soft){RECEIVER_SURE, 0, 0, 0, 0, 1}, "000000");
     check_found("case 8", "100000", "912112", 2, (struct soft){RECEIVER_FAIR, 9, -7, 1, 0, 4}, "000000");
     check_found("case 9", "100000", "912112", 4, (struct soft){RECEIVER_FAIR, 4, -3, 2, 8, 16}, "101001");
