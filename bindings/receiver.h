@@ -115,8 +115,8 @@ static inline const char *receiver_refusal_text(unsigned number)
 
 /* ---- the archive's own calls
  *
- * For the functions further below alone, each of which reads the one that it is named after. They answer one number of 64 bits. Its byte 0,
- * the lowest, is below 128, or 128 plus the number of a refusal, whose place then stands in bytes 1-7.
+ * Not for programs: the functions further below make them, each the one of its own name, and read the answer, one number of 64 bits. Its
+ * byte 0, the lowest, is below 128, or 128 plus the number of a refusal, whose place then stands in bytes 1-7.
  */
 
 /* 0 */
@@ -283,7 +283,7 @@ static inline receiver_quantised receiver_quantise(const float *edges, size_t ed
 
 /* ---- takes */
 
-/* What the header of a take says. To read the take needs words k bytes for its messages and `words` for its marks. */
+/* What the header of a take says. Reading the take needs words * k bytes for its messages, and `words` bytes for its marks. */
 typedef struct receiver_header {
     receiver_refusal refusal;
     size_t words;
