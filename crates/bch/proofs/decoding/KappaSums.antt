@@ -31,7 +31,8 @@ use Rattle.bch.proofs.decoding.KappaDecoder.{e5, nonzero, trio, cubed-l
 
 -- ---- the locator moved by S1, in numbers
 
--- with Y = X + S1, D2·X³ + S1·D2·X² + δ2·X + D3 = D2·Y³ + E·Y + D2², where E = S1⁵ + S5 (`e5-is`: it is S1²·D2 + δ2)
+-- with Y = X + S1, D2·X³ + S1·D2·X² + δ2·X + D3 = D2·Y³ + E·Y + D2², where E = S1⁵ + S5 (`e5-is`: it is S1²·D2 + δ2). No
+-- code cites the two laws: they tie what is solved to document 01's locator
 pub moved-is : (m : ℕ) → Primitive m → (s1 s3 s5 x : ℕ) → s1 < 2 ^ m → s3 < 2 ^ m → s5 < 2 ^ m → x < 2 ^ m
     → bitXor (bitXor (bitXor (mul m (d2 m s1 s3) (cubed m x)) (mul m (mul m s1 (d2 m s1 s3)) (square m x))) (mul m (delta2 m s1 s3 s5) x))
     (d3 m s1 s3 s5)

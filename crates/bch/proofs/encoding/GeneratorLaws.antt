@@ -1,5 +1,7 @@
 -- The generators keep the product rule, and encode: each has degree m·t and its t roots, and the syndromes of m·t positions
 -- are independent. Both are tests that are computed once over the whole table. Assumes nothing.
+-- (The products are worked out for all eighteen generators, which is most of this crate's check: a proof from the roots would be
+-- longer than the table is worth.)
 use Prim.Native.Nat.{ℕ, zero, suc, _+_, _-_, _*_, _/_, _^_, _≤_, _<_}
 use native.Mathlib.Omega.{arith}
 use native.Mathlib.Decide.{ℕ-discrete}
