@@ -46,7 +46,8 @@ fn wide(bit: u8) -> u32
     bit as u32
 }
 
-// One step of the division. The generator has degree r, so that to add it gives the smaller number exactly where x^r is set.
+// One step of the division. The generator has degree r, so that to add it gives the smaller number exactly where x^r is set. (To take the
+// smaller of two numbers needs no branch.)
 fn step(r: usize, top: u32, g: u32, register: u32, bit: u32) -> u32
     requires { ⌜ (r ≤ 30) × (top ≡ 2 ^ r) × (g / 2 ^ r ≡ 1) × (register < 2 ^ r) × (bit < 2) ⌝ }
     ensures { λ s. ⌜ s ≡ Division·step r g register bit ⌝ }

@@ -1,5 +1,10 @@
-// Refusals (document 01, "Refusals, by their cause"): the form that all calls share, and the checks that more than one of
-// them makes.
+// Refusals (document 01, "Refusals, by their cause"): the form that all calls share, the record of a code, and the checks of settings,
+// lengths and bytes.
+//
+// The check of what a call takes (`of_message`, `of_word`, `of_symbols`, `of_words`) answers the record of the code, or the refusal. A public
+// call is that check and then its stage, with the record handed on: so nothing is validated and then forgotten, and a stage has nothing to
+// refuse. A call hands over its buffer's length, and not the buffer: a check can't write to it. What another crate can call here has no
+// `requires`.
 ghost use mathlib.Core.Path.{_≡_};
 ghost use mathlib.Core.Logic.{inl};
 ghost use Prim.Native.Nat.{_*_, _≤_, _^_};
@@ -12,7 +17,7 @@ ghost use Rattle.take_format.specs.Calls.{answered};
 ghost use Rattle.refusal.specs.Checked.{checked, AtMost};
 ghost use Rattle.refusal.specs.Named.{namedOf, namedBy, recordOf, codeOf, Made};
 
-// The numbers, by their cause.
+// The numbers, by their cause. (The names are the C header's without its prefix.)
 pub const REFUSED_M: usize = 1;
 
 pub const REFUSED_T: usize = 2;
@@ -63,7 +68,10 @@ pub fn refuse(number: usize, place: usize) -> Check
     })
 }
 
-// A code (document 01, "The codes"): the settings that name it, with what follows from them. Made by `settings`.
+// A code (document 01, "The codes"): the settings that name it, with what follows from them. Made by `settings`, and worked out nowhere
+// else. (The fields are public, since private functions of other crates take the record. One that is made by hand is of no use but to be
+// asked for these numbers, since every public call takes m, t and n; `Made`, which says of a record that it is a code's, is asked for by
+// private functions alone.)
 pub struct Code {
     pub m: usize,
     pub t: usize,
