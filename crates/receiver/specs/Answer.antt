@@ -22,7 +22,8 @@ hardOf Lost = inr none
 hardOf (Found k) = inr (some k)
 
 -- the soft stage's answer, beside the word that then stands in the caller's buffer: a refusal; or a mark with L, margin, q, j and the
--- tries, where lost has 0 for L, margin, q and j
+-- tries, where lost has 0 for L, margin, q and j. (So the answer is one equation with the whole definition, codeword included; a refusal
+-- and a lost word do not look at the buffer.)
 unfoldable pub softOf : Soft → List ℕ → Refusal ⊎ Answer
 unfolding lostAnswer
 softOf (Soft·Refused r) word = inl (refusalOf r)

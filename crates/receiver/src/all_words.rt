@@ -1,4 +1,5 @@
-// Several words of one code, decoded with tables that are filled once.
+// Several words of one code, decoded with tables that are filled once. A word's mark and tries are read off the outcome of its search, and no
+// codeword stands between that and its message.
 ghost use Prim.Native.Nat.{_+_, _-_, _<_, _≤_};
 ghost use mathlib.Core.Path.{_≡_};
 ghost use lib.ListN.{length, replicate};

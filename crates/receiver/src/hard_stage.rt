@@ -47,7 +47,8 @@ pub fn syndromes(c: Code, tables: &[u32], word: &[u8], shift: u8) -> u32
     acc
 }
 
-// The positions to flip for the syndromes s. The roots are filled only where there is more than one error.
+// The positions to flip for the syndromes s. The roots are filled only where there is more than one error: what is left of the syndromes
+// without those of one error decides it (`few-repairs`, bch `logarithms`).
 fn located(c: Code, tables: &mut [u32], s: u32) -> Flips
     requires { ⌜ Fielded c (now tables) × Rootless (c .m) (now tables) × Syndromes (c .m) (c .t) s ⌝ }
     ensures { λ r. ⌜ Repairing c s r ⌝ }

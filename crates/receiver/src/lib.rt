@@ -22,7 +22,8 @@
 // stage adds up the syndromes S1, S3, S5 (`hard_stage`), finds the positions to flip (`locate`) and only then writes. The soft stage ranks the
 // symbols (`ranking`), has the syndromes and the weights of test words without writing them out (`test_words`), locates and weighs one test
 // word after the other (`search`, `weighing`) and only then writes (`soft_stage`). Several words share their tables (`all_words`). What has a
-// `requires` is in private modules.
+// `requires` is in private modules, so that this is one crate: to split it would make such functions public. (Modules `hard`, `soft` and
+// `words` would differ only in case from the enums, which is refused.)
 ghost use Prim.Native.Nat.{_+_, _-_, _^_, min};
 ghost use mathlib.Core.Path.{_≡_};
 ghost use mathlib.Core.Bool.{cond};
@@ -147,7 +148,7 @@ fn add(totals: Totals, mark: u8, tries: usize) -> Totals
 }
 
 // The totals with one more answer, for whoever decodes word by word. A refusal leaves them as they are, and no total goes beyond the
-// largest number.
+// largest number, so that nothing is required of them. (A take's totals are far below: `few-capped`, in take_format.)
 pub fn counted(totals: Totals, answer: Soft) -> Totals
     ensures { λ r. ⌜ totalsTold r ≡ countedAnswer (totalsTold totals) (softOf answer []) ⌝ }
 {
@@ -167,7 +168,7 @@ pub enum Words {
 
 // Decodes so many words of n symbols, one after the other, with tables that are filled once, and writes for each of them the k bytes of
 // its message (0 where it is lost) and a mark's byte, 0 lost, 1 fair, 2 sure. Any m, t, n, depth, symbols and buffers may be
-// handed in.
+// handed in. (The count has 16 bits, as in a take's header: the products of the lengths then fit.)
 pub fn decode_words(
     m: usize,
     t: usize,

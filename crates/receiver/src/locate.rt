@@ -7,10 +7,11 @@
 // t = 3: document 01's locator, turned round so that its roots are the X, is D2 X^3 + S1 D2 X^2 + δ2 X + D3. Moved by S1, with Y = X + S1, it
 // is D2 Y^3 + E Y + D2^2, where E = S1^2 D2 + δ2. Where D2 is 0 there is no more than one error, or too many. Where E is 0 the Y are the cube
 // roots of D2. Elsewhere Y = W D2^2 / E, where W^3 = k (W + 1) and k = E^3 / D2^5; two of the three W stand in the tables by the logarithm
-// of k, and the third Y is the sum of the other two. Two errors are no case of their own: D3 is then 0, and one X with it.
+// of k, and the third Y is the sum of the other two. Two errors are no case of their own: D3 is then 0, and one X with it. δ2 and D3 are not
+// worked out: that E and the moved locator are those of document 01 are the laws `e5-is` and `moved-is` (bch `decoding`).
 //
-// What is found are roots by how the tables were filled, so that their sums need not be held to the syndromes; only positions at or beyond n
-// are refused.
+// What is found are roots by how the tables were filled (`trio-sums`), so that their sums need not be held to the syndromes; only positions at
+// or beyond n are refused.
 ghost use mathlib.Core.Path.{_≡_};
 ghost use mathlib.Core.Logic.{_≢_};
 ghost use mathlib.Core.List.{[], _∷_};
@@ -262,7 +263,8 @@ pub struct Spot {
 }
 
 // Tries one word after the other, by the syndromes in its number, until positions are located; each try is counted as it is made. (Both
-// stages go through here: a function that is called from one place alone is compiled into it, and a try then costs no call of `locate`.)
+// stages go through here: a function that is called from one place alone is compiled into it, and a try then costs no call of `locate`. It
+// also leaves the search with candidates alone; that the tries between two of them had none is the law `skip`, chase `search.Steps`.)
 pub fn next(c: Code, tables: &[u32], tests: &[u64], made: usize) -> Spot
     requires { ⌜ Filled c (now tables) × AreSyndromes c (now tests) × (made ≤ length (now tests)) ⌝ }
     ensures { λ r. ⌜ Sought c (now (tables .entry)) (now (tests .entry)) made (r .tries) (r .flips) ⌝ }

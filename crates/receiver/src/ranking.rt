@@ -1,5 +1,8 @@
 // The weakest positions of a word of symbols, as keys: 1024 times the reliability z, plus the position. Keys rise in the weakest
-// order of document 01: smaller z first, and of equal z the lower position.
+// order of document 01: smaller z first, and of equal z the lower position. Position and z are read back off a key.
+//
+// One pass over the symbols keeps the least keys in a sorted array of eight, and only as many of them right as the word needs: p for the weak
+// positions or d for A, whichever is more. A key that is not among these costs one comparison.
 ghost use mathlib.Core.Path.{_≡_};
 ghost use Prim.Native.Nat.{_/_, _%_, _<_, _≤_};
 ghost use lib.ListN.{length};

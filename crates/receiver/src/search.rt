@@ -1,4 +1,7 @@
 // The Chase search: the hard stage of one test word after the other, each candidate weighed, until one is sure.
+//
+// The test words stand in an array of 64, which is doubled only as far as the search gets: test word 0 needs none, the next seven are made at
+// once, and then each weak position doubles them. The search keeps numbers alone (`Outcome`); the codeword is written after it.
 ghost use mathlib.Core.Path.{_≡_};
 ghost use mathlib.Core.Bool.{false};
 ghost use Prim.Native.Nat.{_-_, _^_, _<_, _≤_};

@@ -1,4 +1,5 @@
-// The soft stage of one word: rank, search, and only then write.
+// The soft stage of one word: rank, search, and only then write. The codeword is written once, from a position on: whole for a call on one
+// word, and for one of several words only what stands behind the parity, straight into the messages.
 ghost use mathlib.Core.Path.{_≡_};
 ghost use mathlib.Core.Logic.{inr};
 ghost use Prim.Native.Nat.{_-_, _*_, _+_, _^_, _<_, _≤_};

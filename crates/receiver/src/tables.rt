@@ -1,11 +1,15 @@
 // The tables of a code, in one slice of 3·2^m + 16 numbers.
 //
-// By element x, 2^m entries: the logarithm of x. (That of 0 is an exponent of its own, whose powers are 0.)
+// By element x, 2^m entries: the logarithm of x. (That of 0 is an exponent of its own, whose powers are 0, so that S1 = 0 needs no branch.)
 // By exponent i, from `powers` on, 2^m + 8 entries: α^i, α^3i and α^5i in one number, as many of them as t says.
 // By exponent e, from `roots` on, 2^m + 8 entries: the logarithms of two roots in one number, 0 where there are none. For t = 2 they are
 // those of w and w + 1, where w^2 + w = α^e; for t = 3 those of the last two w where w^3 = α^e (w + 1).
 //
 // A sum of exponents is folded once, and is then at most seven beyond the period: so the first eight entries stand again behind it.
+//
+// The slice is a local array of the stage that fills it: of 208, 784 or 3,088 numbers by m, since an array's length is part of its type;
+// several words always have the largest, which is cleared once. What it holds is one predicate, `CodeTables` (bch), for m up to 10.
+// `Fielded` and `Filled` add that the code's record is made.
 ghost use mathlib.Core.Path.{_≡_};
 ghost use mathlib.Core.Logic.{_≢_};
 ghost use Prim.Native.Nat.{_+_, _-_, _*_, _%_, _<_, _≤_, _^_, min};
@@ -103,7 +107,8 @@ fn fill_logs(c: Code, tables: &mut [u32])
     tables[0] = narrow(period + 8);
 }
 
-// Where the code has more than t powers: adds α^(d i), times the scale, to each power i.
+// Where the code has more than t powers: adds α^(d i), times the scale, to each power i. (The exponent goes on in steps of d, which is
+// faster than to work d i out.)
 fn add_powers(c: Code, t: usize, d: usize, scale: u32, tables: &mut [u32])
     requires { ⌜ Made c × Adds (c .m) t d scale × FieldPart (c .m) (stage (c .m) (min t (c .t))) (2 ^ c .m - 1) (now tables) ⌝ }
     ensures { λ _. ⌜ FieldPart (c .m) (stage (c .m) (min (t + 1) (c .t))) (2 ^ c .m - 1) (now (tables .exit)) ⌝ }
@@ -125,7 +130,7 @@ fn add_powers(c: Code, t: usize, d: usize, scale: u32, tables: &mut [u32])
     }
 }
 
-// Where t = 2, for w^2 + w, by its logarithm: the logarithms of w and w + 1.
+// Where t = 2, for w^2 + w, by its logarithm: the logarithms of w and w + 1. (The even w are enough: w + 1 has the same value.)
 fn fill_quadratics(c: Code, tables: &mut [u32])
     requires { ⌜ Made c × FieldFilled (c .m) (c .t) (now tables) × Rootless (c .m) (now tables) ⌝ }
     ensures { λ _. ⌜ PairPart (c .m) (c .t) (now (tables .exit)) ⌝ }

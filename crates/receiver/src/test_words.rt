@@ -1,5 +1,5 @@
-// Test words, each from the one without its highest bit. None is written out: a test word is one number, 2^32 times its weight plus its
-// syndromes. The weight is 65536 times its flips plus its distance from the hard bits.
+// Test words, each from the one without its highest bit, by the powers and the reliability of one position. None is written out: a test word
+// is one number, 2^32 times its weight plus its syndromes. The weight is 65536 times its flips plus its distance from the hard bits.
 ghost use mathlib.Core.Path.{_≡_};
 ghost use Prim.Native.Nat.{_+_, _*_, _/_, _%_, _<_, _≤_};
 ghost use lib.ListN.{length};

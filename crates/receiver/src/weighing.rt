@@ -14,7 +14,7 @@ use crate::locate::Flips;
 use crate::ranking;
 use crate::ranking::Keys;
 
-// A: the sum of the d - q smallest reliabilities.
+// A: the sum of the d - q smallest reliabilities, added up from the keys for each candidate: they are few.
 pub fn allowance(keys: Keys, d: usize, q: u32) -> u32
     requires { ⌜ (d ≤ 8) × (length (keys .at) ≡ 8) ⌝ }
     ensures { λ r. ⌜ r ≡ weighed (take (d - q) (keys .at)) ⌝ }
