@@ -31,7 +31,8 @@ fn reached(edge: f32, level: f32) -> u8
     if edge <= level { 1 } else { 0 }
 }
 
-// How many edges are at most the level. Each is looked at, so that the loop has no branches.
+// How many edges are at most the level. Each is looked at: so no branch depends on the level, as it would in a search, and nothing is asked
+// of the edges' order.
 pub fn count(edges: &[f32], level: f32) -> u8
     requires { ⌜ length (now edges) ≤ 15 ⌝ }
     ensures { λ r. ⌜ r ≡ edgesAtMost level (now (edges .entry)) ⌝ }

@@ -21,7 +21,9 @@ use refusal::Refusal;
 mod edges;
 mod samples;
 
-// A ladder's fifteen edges. Only `make_ladder` makes one. (Fields and not an array, which no enum may hold.)
+// A ladder's fifteen edges. The fields are private, and only `make_ladder` makes one. (Fields and not an array, which no enum may hold, not
+// even inside a struct; and what `make_ladder` answers is an enum. A function `ladder` would differ from the struct only in case, which is
+// refused.)
 pub struct Ladder {
     e1: f32,
     e2: f32,
@@ -47,7 +49,7 @@ pub enum Made {
 }
 
 // The ladder of fifteen edges, the first above zero and each above the one before. Any edges may be handed in: others are
-// refused with 5.
+// refused with 5, also where they are not fifteen.
 pub fn make_ladder(edges: &[f32]) -> Made
     ensures { λ r. ⌜ madeOf r ≡ ladderAnswer (now (edges .entry)) ⌝ }
 {

@@ -1,4 +1,7 @@
-// The samples: their check, and then their symbols.
+// The samples: their check, in a pass of its own, and then their symbols.
+//
+// No branch depends on whether a sample is blank: it would be guessed wrong half of the time where half are. The check asks one question of
+// kind and level, and a blank's symbol is made too, of the level 0, and taken 0 times. A level that is not a number differs from itself.
 ghost use Prim.Native.Nat.{_≤_};
 ghost use mathlib.Core.Path.{_≡_};
 ghost use mathlib.Core.Bool.{cond};
@@ -12,7 +15,7 @@ use crate::Sample;
 use crate::edges;
 use refusal::Check;
 
-// Whether a sample is refused. (A question of its own, so that a blank takes no branch.)
+// Whether a sample is refused.
 fn bad(kind: u8, level: f32) -> bool
     ensures { λ r. ⌜ r ≡ isBad kind level ⌝ }
 {
@@ -86,7 +89,7 @@ fn level_of(sample: Sample) -> f32
     }
 }
 
-// The symbol of a sample. A blank's is made too, and taken 0 times: so there is no branch that a blank takes.
+// The symbol of a sample.
 fn symbol(edges: &[f32], sample: Sample) -> u8
     requires { ⌜ length (now edges) ≤ 15 ⌝ }
     ensures { λ r. ⌜ r ≡ Samples·symbol (now (edges .entry)) (sampleTold sample) ⌝ }
