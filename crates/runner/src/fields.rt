@@ -100,6 +100,22 @@ pub fn number(line: &[u8], index: usize) -> usize {
     decimal(word(line, index))
 }
 
+// The numbers that name a code.
+pub struct Setting {
+    pub m: usize,
+    pub t: usize,
+    pub n: usize,
+}
+
+// Words 1 to 3 of the line: m, t and n.
+pub fn settings(line: &[u8]) -> Setting {
+    Setting {
+        m: number(line, 1),
+        t: number(line, 2),
+        n: number(line, 3),
+    }
+}
+
 // The smaller of the two.
 fn least(a: usize, b: usize) -> usize
     ensures { λ r. ⌜ r ≤ a ⌝ }

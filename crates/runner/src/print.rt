@@ -50,6 +50,12 @@ pub fn buffer(bytes: &[u8]) {
     }
 }
 
+// Writes what a buffer holds, and ends the line.
+pub fn last(bytes: &[u8]) {
+    buffer(bytes);
+    end();
+}
+
 // Writes a refusal.
 pub fn refused(refusal: Refusal) {
     text(b"refused");

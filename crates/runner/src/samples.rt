@@ -41,8 +41,7 @@ pub fn quantise(line: &[u8]) {
 // Quantises into the buffer, and prints the answer.
 fn quantise_to(line: &[u8], symbols: &mut [u8]) {
     answer(quantised(line, symbols));
-    print::buffer(symbols);
-    print::end();
+    print::last(symbols);
 }
 
 // Makes the ladder and quantises by it.

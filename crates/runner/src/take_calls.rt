@@ -63,8 +63,7 @@ fn decode(take: &[u8], index: usize, codeword: &mut [u8]) -> Soft {
 // Prints the answer for one word of a take.
 fn word_to(take: &[u8], index: usize, codeword: &mut [u8]) {
     print::soft(decode(take, index, codeword));
-    print::buffer(codeword);
-    print::end();
+    print::last(codeword);
 }
 
 // The record `take TAKE MESSAGES MARKS`.
@@ -94,8 +93,7 @@ fn read_to(take: &[u8], messages: &mut [u8], marks: &mut [u8]) {
         }
     }
     print::buffer(messages);
-    print::buffer(marks);
-    print::end();
+    print::last(marks);
 }
 
 // The record `list TAKE`.

@@ -110,11 +110,8 @@ fn print_weights(c: Code) {
 
 // The record `weights M T N`.
 pub fn weights(line: &[u8]) {
-    match refusal::settings(
-        fields::number(line, 1),
-        fields::number(line, 2),
-        fields::number(line, 3),
-    ) {
+    let code = fields::settings(line);
+    match refusal::settings(code.m, code.t, code.n) {
         Named::Refused(r) => {
             print::refused(r);
         }

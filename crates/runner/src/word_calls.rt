@@ -19,10 +19,8 @@ pub fn encode(line: &[u8]) {
 
 // Encodes into the buffer, and prints the answer.
 fn encode_to(line: &[u8], message: &[u8], codeword: &mut [u8]) {
-    let m = fields::number(line, 1);
-    let t = fields::number(line, 2);
-    let n = fields::number(line, 3);
-    match encoder::encode(m, t, n, message, codeword) {
+    let code = fields::settings(line);
+    match encoder::encode(code.m, code.t, code.n, message, codeword) {
         Encoded::Refused(r) => {
             print::refused(r);
         }
@@ -30,8 +28,7 @@ fn encode_to(line: &[u8], message: &[u8], codeword: &mut [u8]) {
             print::text(b"written");
         }
     }
-    print::buffer(codeword);
-    print::end();
+    print::last(codeword);
 }
 
 // The record `hard M T N BITS ROOM`.
@@ -45,10 +42,8 @@ pub fn hard(line: &[u8]) {
 
 // Decodes bits into the buffer, and prints the answer.
 fn hard_to(line: &[u8], bits: &[u8], codeword: &mut [u8]) {
-    let m = fields::number(line, 1);
-    let t = fields::number(line, 2);
-    let n = fields::number(line, 3);
-    match receiver::decode_hard(m, t, n, bits, codeword) {
+    let code = fields::settings(line);
+    match receiver::decode_hard(code.m, code.t, code.n, bits, codeword) {
         Hard::Refused(r) => {
             print::refused(r);
         }
@@ -60,8 +55,7 @@ fn hard_to(line: &[u8], bits: &[u8], codeword: &mut [u8]) {
             print::number(flips);
         }
     }
-    print::buffer(codeword);
-    print::end();
+    print::last(codeword);
 }
 
 // The record `soft M T N DEPTH SYMBOLS ROOM`: the totals with its answer.
@@ -75,13 +69,10 @@ pub fn soft(line: &[u8], totals: Totals) -> Totals {
 
 // Decodes symbols into the buffer, prints the answer and counts it.
 fn soft_to(line: &[u8], totals: Totals, symbols: &[u8], codeword: &mut [u8]) -> Totals {
-    let m = fields::number(line, 1);
-    let t = fields::number(line, 2);
-    let n = fields::number(line, 3);
+    let code = fields::settings(line);
     let depth = fields::number(line, 4);
-    let answer = receiver::decode_soft(m, t, n, depth, symbols, codeword);
+    let answer = receiver::decode_soft(code.m, code.t, code.n, depth, symbols, codeword);
     print::soft(answer);
-    print::buffer(codeword);
-    print::end();
+    print::last(codeword);
     receiver::counted(totals, answer)
 }

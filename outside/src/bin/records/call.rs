@@ -100,12 +100,9 @@ fn open(take: &[u8]) -> Result<String, Refusal> {
     Ok(format!("opened {} {} {} {} {}", header.words, name(header.code), header.depth, layout.offset, layout.label))
 }
 
-/// Of a take that does not open no word is asked for, and the buffer is not shown.
+/// The take is opened first.
 fn word(take: &[u8], index: usize, room: usize) -> String {
-    match reference::open_take(take) {
-        Ok(_) => soft(room, |codeword| reference::decode_word(take, index, codeword)),
-        Err(refusal) => refused(refusal),
-    }
+    soft(room, |codeword| reference::open_take(take).and_then(|_| reference::decode_word(take, index, codeword)))
 }
 
 fn read(take: &[u8], messages: usize, marks: usize) -> String {
@@ -163,7 +160,7 @@ mod tests {
         let text = "02000501060000000c000000110505050505111105050505";
         assert_eq!(lines(Call::Open { take: &TAKE }), (format!("open {text}"), "opened 2 5 1 6 0 12 0".to_string()));
         assert_eq!(lines(Call::Word { take: &TAKE, index: 1, room: 6 }), (format!("word {text} 1 6"), "lost 1 070707070707".to_string()));
-        assert_eq!(lines(Call::Word { take: &[], index: 1, room: 6 }), pair("word - 1 6", "refused 12 0"));
+        assert_eq!(lines(Call::Word { take: &[], index: 1, room: 6 }), pair("word - 1 6", "refused 12 0 070707070707"));
         assert_eq!(
             lines(Call::Take { take: &TAKE, messages: 2, marks: 2 }),
             (format!("take {text} 2 2"), "read 2 1 0 1 2 0000 0200".to_string())
