@@ -1,4 +1,6 @@
 // The calls on takes: opening, one word, reading, and the listing.
+ghost use mathlib.Core.Path.{_≡_};
+ghost use lib.ListN.{length};
 use crate::fields;
 use crate::print;
 use receiver::Soft;
@@ -8,6 +10,20 @@ use takes::Opening;
 
 // The longest take that a record may have, and the longest of its buffers: a take that is too long for takelist has 65,537 bytes.
 const TAKE: usize = 66000;
+
+// Room for a take. The `ensures` gives only the length, which lending the array needs.
+fn room() -> [u8; TAKE]
+    ensures { λ r. ⌜ 66000 ≡ length r ⌝ }
+{
+    [0; TAKE]
+}
+
+// A buffer that is lent: 7s.
+fn sevens() -> [u8; TAKE]
+    ensures { λ r. ⌜ 66000 ≡ length r ⌝ }
+{
+    [7; TAKE]
+}
 
 // The longest codeword that a record may have.
 const WORD: usize = 1024;
@@ -26,7 +42,7 @@ fn header(h: Header) {
 
 // The record `open TAKE`.
 pub fn open(line: &[u8]) {
-    let mut take = [0u8; TAKE];
+    let mut take = room();
     let length = fields::bytes(line, 1, &mut take);
     match takes::open_take(&take[..length]) {
         Opening::Refused(r) => {
@@ -41,7 +57,7 @@ pub fn open(line: &[u8]) {
 
 // The record `word TAKE INDEX ROOM`.
 pub fn word(line: &[u8]) {
-    let mut take = [0u8; TAKE];
+    let mut take = room();
     let mut codeword = [7u8; WORD];
     let length = fields::bytes(line, 1, &mut take);
     let room = fields::room(line, 3, WORD);
@@ -68,9 +84,9 @@ fn word_to(take: &[u8], index: usize, codeword: &mut [u8]) {
 
 // The record `take TAKE MESSAGES MARKS`.
 pub fn read(line: &[u8]) {
-    let mut take = [0u8; TAKE];
-    let mut messages = [7u8; TAKE];
-    let mut marks = [7u8; TAKE];
+    let mut take = room();
+    let mut messages = sevens();
+    let mut marks = sevens();
     let length = fields::bytes(line, 1, &mut take);
     let message_room = fields::room(line, 2, TAKE);
     let mark_room = fields::room(line, 3, TAKE);
@@ -98,7 +114,7 @@ fn read_to(take: &[u8], messages: &mut [u8], marks: &mut [u8]) {
 
 // The record `list TAKE`.
 pub fn list(line: &[u8]) {
-    let mut take = [0u8; TAKE];
+    let mut take = room();
     let length = fields::bytes(line, 1, &mut take);
     print_listing(&take[..length]);
 }

@@ -6,6 +6,9 @@ use lib.Seq.{length-take-le}
 use Rattle.runner.proofs.take_calls.list.Statement.{statement}
 use Rattle.runner.proofs.take_calls.list.Tie as tie
 
+room-requires : tie.Need-room-requires
+room-requires c κs = search needs
+
 slice-aggregate-bytes : tie.Need-slice-aggregate-bytes
 slice-aggregate-bytes c = search needs
 
@@ -28,6 +31,7 @@ pub list-spec : {M : Type 1} → statement M
 list-spec =
     tie.close
     (tie.spec
+    room-requires
     slice-aggregate-bytes
     bytes-requires
     array-share-prefix-take

@@ -6,6 +6,9 @@ use lib.Seq.{length-take-le}
 use Rattle.runner.proofs.take_calls.open.Statement.{statement}
 use Rattle.runner.proofs.take_calls.open.Tie as tie
 
+room-requires : tie.Need-room-requires
+room-requires c κs = search needs
+
 slice-aggregate-bytes : tie.Need-slice-aggregate-bytes
 slice-aggregate-bytes c = search needs
 
@@ -43,6 +46,7 @@ pub open-spec : {M : Type 1} → statement M
 open-spec =
     tie.close
     (tie.spec
+    room-requires
     slice-aggregate-bytes
     bytes-requires
     array-share-prefix-take

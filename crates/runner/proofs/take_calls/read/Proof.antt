@@ -6,17 +6,26 @@ use lib.Seq.{length-take-le}
 use Rattle.runner.proofs.take_calls.read.Statement.{statement}
 use Rattle.runner.proofs.take_calls.read.Tie as tie
 
+room-requires : tie.Need-room-requires
+room-requires c κs = search needs
+
+sevens-requires : tie.Need-sevens-requires
+sevens-requires c κs = search needs
+
+sevens-requires-2 : tie.Need-sevens-requires-2
+sevens-requires-2 c κs = search needs
+
 slice-aggregate-bytes : tie.Need-slice-aggregate-bytes
 slice-aggregate-bytes c = search needs
 
 bytes-requires : tie.Need-bytes-requires
 bytes-requires c κs = search needs
 
-room-requires : tie.Need-room-requires
-room-requires c κs = search needs
-
 room-requires-2 : tie.Need-room-requires-2
 room-requires-2 c κs = search needs
+
+room-requires-3 : tie.Need-room-requires-3
+room-requires-3 c κs = search needs
 
 array-share-prefix-take : tie.Need-array-share-prefix-take
 array-share-prefix-take c = search needs
@@ -46,10 +55,13 @@ pub read-spec : {M : Type 1} → statement M
 read-spec =
     tie.close
     (tie.spec
+    room-requires
+    sevens-requires
+    sevens-requires-2
     slice-aggregate-bytes
     bytes-requires
-    room-requires
     room-requires-2
+    room-requires-3
     array-share-prefix-take
     slice-aggregate-read-to
     array-borrow-prefix-messages

@@ -6,14 +6,17 @@ use lib.Seq.{length-take-le}
 use Rattle.runner.proofs.take_calls.word.Statement.{statement}
 use Rattle.runner.proofs.take_calls.word.Tie as tie
 
+room-requires : tie.Need-room-requires
+room-requires c κs = search needs
+
 slice-aggregate-bytes : tie.Need-slice-aggregate-bytes
 slice-aggregate-bytes c = search needs
 
 bytes-requires : tie.Need-bytes-requires
 bytes-requires c κs = search needs
 
-room-requires : tie.Need-room-requires
-room-requires c κs = search needs
+room-requires-2 : tie.Need-room-requires-2
+room-requires-2 c κs = search needs
 
 array-share-prefix-take : tie.Need-array-share-prefix-take
 array-share-prefix-take c = search needs
@@ -40,9 +43,10 @@ pub word-spec : {M : Type 1} → statement M
 word-spec =
     tie.close
     (tie.spec
+    room-requires
     slice-aggregate-bytes
     bytes-requires
-    room-requires
+    room-requires-2
     array-share-prefix-take
     slice-aggregate-word-to
     number-requires
