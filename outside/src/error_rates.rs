@@ -1,6 +1,7 @@
 //! What is counted when words of a code are sent over a noisy channel and decoded, and the file of the counts.
 
 use crate::reference::Code;
+use bch_receiver::Mark;
 use std::{fmt, fs, io, ops::AddAssign, path::Path, str::FromStr};
 use Decoder::{Absent, Hard, Soft};
 
@@ -15,7 +16,13 @@ pub enum Decoder {
     Soft(usize),
 }
 
-pub const DECODERS: [Decoder; 8] = [Absent, Hard, Soft(1), Soft(2), Soft(3), Soft(4), Soft(5), Soft(6)];
+pub const DECODERS: [Decoder; 9] = [Absent, Hard, Soft(0), Soft(1), Soft(2), Soft(3), Soft(4), Soft(5), Soft(6)];
+/// The soft stage at depth 1 to 6: at depth 0 it finds what the hard stage finds, and marks it.
+pub const DEEP: [Decoder; 6] = [Soft(1), Soft(2), Soft(3), Soft(4), Soft(5), Soft(6)];
+/// The hard stage, and the soft one where it finds more.
+pub const COMPARED: [Decoder; 7] = [Hard, Soft(1), Soft(2), Soft(3), Soft(4), Soft(5), Soft(6)];
+/// The soft stage at all depths.
+pub const MARKING: [Decoder; 7] = [Soft(0), Soft(1), Soft(2), Soft(3), Soft(4), Soft(5), Soft(6)];
 
 impl Decoder {
     /// Its name in a heading.
@@ -46,6 +53,7 @@ impl FromStr for Decoder {
 }
 
 /// What one decoder made of the words of a point. An error is a wrong bit of the message; a word is wrong that has one, or is lost.
+/// `wrong_sure` and `wrong_fair` count those of the sure and of the fair words that are wrong.
 #[derive(Clone, Copy, Debug, Default, PartialEq, Eq)]
 pub struct Count {
     pub words: u64,
@@ -53,6 +61,29 @@ pub struct Count {
     pub bit_errors: u64,
     pub sure: u64,
     pub tries: u64,
+    pub wrong_sure: u64,
+    pub fair: u64,
+    pub wrong_fair: u64,
+    pub lost: u64,
+}
+
+impl Count {
+    /// The count of one word. Only the soft stage marks a word that is not lost.
+    pub fn of_word(mark: Option<Mark>, bit_errors: u64, tries: u64) -> Count {
+        let marked = |with| mark == Some(with);
+        let wrong = bit_errors > 0;
+        Count {
+            words: 1,
+            word_errors: u64::from(marked(Mark::Lost) || wrong),
+            bit_errors,
+            sure: u64::from(marked(Mark::Sure)),
+            tries,
+            wrong_sure: u64::from(marked(Mark::Sure) && wrong),
+            fair: u64::from(marked(Mark::Fair)),
+            wrong_fair: u64::from(marked(Mark::Fair) && wrong),
+            lost: u64::from(marked(Mark::Lost)),
+        }
+    }
 }
 
 impl AddAssign for Count {
@@ -62,6 +93,10 @@ impl AddAssign for Count {
         self.bit_errors += other.bit_errors;
         self.sure += other.sure;
         self.tries += other.tries;
+        self.wrong_sure += other.wrong_sure;
+        self.fair += other.fair;
+        self.wrong_fair += other.wrong_fair;
+        self.lost += other.lost;
     }
 }
 
@@ -100,11 +135,26 @@ impl Row {
         self.count.sure as f64 / self.count.words as f64
     }
 
+    /// How many of the sure words are wrong, where enough were.
+    pub fn wrong_sure_rate(&self) -> Option<f64> {
+        let Count { sure, wrong_sure, .. } = self.count;
+        (wrong_sure >= ENOUGH).then(|| wrong_sure as f64 / sure as f64)
+    }
+
+    /// How many of the fair words are wrong, where enough were.
+    pub fn wrong_fair_rate(&self) -> Option<f64> {
+        let Count { fair, wrong_fair, .. } = self.count;
+        (wrong_fair >= ENOUGH).then(|| wrong_fair as f64 / fair as f64)
+    }
+
     /// Whether enough words were wrong for the rates to mean something.
     pub fn is_measured(&self) -> bool {
-        self.count.word_errors >= 10
+        self.count.word_errors >= ENOUGH
     }
 }
+
+/// So many wrong words are enough for a rate to mean something.
+pub const ENOUGH: u64 = 10;
 
 pub fn message_length(code: Code) -> usize {
     code.message_length().expect("a code has a message")
@@ -142,13 +192,14 @@ pub fn crossing(curve: &[Row], rate: f64) -> Option<f64> {
     })
 }
 
-const HEAD: &str = "m\tt\tn\tEb/N0\tdecoder\twords\tword errors\tbit errors\tsure\ttries";
+const HEAD: &str = "m\tt\tn\tEb/N0\tdecoder\twords\tword errors\tbit errors\tsure\ttries\twrong sure\tfair\twrong fair\tlost";
 
 impl fmt::Display for Row {
     fn fmt(&self, f: &mut fmt::Formatter<'_>) -> fmt::Result {
         let Row { code, ebn0, decoder, count } = self;
         write!(f, "{}\t{}\t{}\t{ebn0:.1}\t{decoder}", code.m, code.t, code.n)?;
-        write!(f, "\t{}\t{}\t{}\t{}\t{}", count.words, count.word_errors, count.bit_errors, count.sure, count.tries)
+        write!(f, "\t{}\t{}\t{}\t{}\t{}", count.words, count.word_errors, count.bit_errors, count.sure, count.tries)?;
+        write!(f, "\t{}\t{}\t{}\t{}", count.wrong_sure, count.fair, count.wrong_fair, count.lost)
     }
 }
 
@@ -166,6 +217,10 @@ impl FromStr for Row {
                 bit_errors: next(&mut fields)?,
                 sure: next(&mut fields)?,
                 tries: next(&mut fields)?,
+                wrong_sure: next(&mut fields)?,
+                fair: next(&mut fields)?,
+                wrong_fair: next(&mut fields)?,
+                lost: next(&mut fields)?,
             },
         };
         fields.next().map_or(Ok(row), |field| Err(format!("a field too many: {field}")))
@@ -192,7 +247,8 @@ mod tests {
     use super::*;
 
     fn row(ebn0: f64, bit_errors: u64) -> Row {
-        let count = Count { words: 1_000_000, word_errors: bit_errors, bit_errors, sure: 5, tries: 6 };
+        let marks = Count { sure: 5, tries: 6, wrong_sure: 1, fair: 4, wrong_fair: 2, lost: 3, ..Count::default() };
+        let count = Count { words: 1_000_000, word_errors: bit_errors, bit_errors, ..marks };
         Row { code: Code::new(5, 1, 6), ebn0, decoder: Soft(3), count }
     }
 
@@ -200,9 +256,24 @@ mod tests {
     fn rows_are_read_as_written() {
         let written = row(3.5, 7);
         assert_eq!(written.to_string().parse(), Ok(written));
-        assert!("5\t1\t6\t3.5\t3\t1\t1\t1\t5".parse::<Row>().is_err());
-        assert!("5\t1\t6\t3.5\tsoft\t1\t1\t1\t5\t6".parse::<Row>().is_err());
-        assert!("5\t1\t6\t3.5\t3\t1\t1\t1\t5\t6\t7".parse::<Row>().is_err());
+        assert!("5\t1\t6\t3.5\t3\t1\t1\t1\t5\t6\t0\t0\t0\t0".parse::<Row>().is_ok());
+        assert!("5\t1\t6\t3.5\t3\t1\t1\t1\t5\t6\t0\t0\t0".parse::<Row>().is_err());
+        assert!("5\t1\t6\t3.5\tsoft\t1\t1\t1\t5\t6\t0\t0\t0\t0".parse::<Row>().is_err());
+        assert!("5\t1\t6\t3.5\t3\t1\t1\t1\t5\t6\t0\t0\t0\t0\t7".parse::<Row>().is_err());
+    }
+
+    #[test]
+    fn words_are_counted_by_mark() {
+        let right = Count { words: 1, tries: 4, ..Count::default() };
+        let wrong = Count { word_errors: 1, bit_errors: 2, ..right };
+        let of = |mark, bit_errors| Count::of_word(mark, bit_errors, 4);
+        assert_eq!(of(Some(Mark::Sure), 0), Count { sure: 1, ..right });
+        assert_eq!(of(Some(Mark::Sure), 2), Count { sure: 1, wrong_sure: 1, ..wrong });
+        assert_eq!(of(Some(Mark::Fair), 0), Count { fair: 1, ..right });
+        assert_eq!(of(Some(Mark::Fair), 2), Count { fair: 1, wrong_fair: 1, ..wrong });
+        assert_eq!(of(Some(Mark::Lost), 2), Count { lost: 1, ..wrong });
+        assert_eq!(of(Some(Mark::Lost), 0), Count { lost: 1, bit_errors: 0, ..wrong }, "wrong parity bits alone can lose a word");
+        assert_eq!((of(None, 0), of(None, 2)), (right, wrong));
     }
 
     #[test]

@@ -5,6 +5,7 @@ pub mod archive;
 pub mod channel;
 pub mod draw;
 pub mod error_rates;
+pub mod mark_tables;
 pub mod reference;
 
 /// The positions where two words of the same length differ.

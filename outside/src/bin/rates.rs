@@ -1,12 +1,16 @@
 //! The receiver's error rates over a channel with Gaussian noise, as `docs/ERROR-RATES.md` tells. Prints a line for each point and then
-//! tables of gains and tries, and writes the counts to `docs/error-rates.tsv` and the tables to that page.
+//! tables of gains, tries and marks, and writes the counts to `docs/error-rates.tsv` and the tables to that page.
 //!
 //!     rates           the whole, in some minutes
+//!     rates --tables  the tables again, from the counts that are in the file
 //!     rates --quick   few words, in some seconds; writes nothing
 //!     rates --steps   compares steps of the ladder, in a minute or two; writes nothing
 
 use outside::channel::{Channel, Limit};
-use outside::error_rates::{codes, crossing, curve, message_length, name, nearest, write_rows, Decoder, Row, DECODERS};
+use outside::error_rates::{
+    codes, crossing, curve, message_length, name, nearest, read_rows, write_rows, Decoder, Row, COMPARED, DECODERS, DEEP, MARKING,
+};
+use outside::mark_tables;
 use outside::reference::Code;
 use std::{env, error::Error, fs, path::Path};
 
@@ -14,8 +18,8 @@ use std::{env, error::Error, fs, path::Path};
 const RANGES: [(Code, f64, f64); 4] =
     [(Code::new(6, 2, 63), 3.0, 8.0), (Code::new(6, 2, 31), 3.0, 8.5), (Code::new(8, 2, 255), 4.0, 8.0), (Code::new(8, 3, 255), 4.0, 7.5)];
 
-const FULL: Limit = Limit { word_errors: 400, bits: 200_000_000 };
-const QUICK: Limit = Limit { word_errors: 100, bits: 1_000_000 };
+const FULL: Limit = Limit { word_errors: 400, wrong_sure: 100, bits: 200_000_000 };
+const QUICK: Limit = Limit { word_errors: 100, wrong_sure: 0, bits: 1_000_000 };
 
 /// The ladder's edges are 1 to 15 times this, where the amplitude of the signal is 1: the strongest reliability begins at 0.9375. With a
 /// larger step too many weak levels are alike, with a much smaller one too many strong ones. `rates --steps` shows it: words of 255 bits want
@@ -25,6 +29,18 @@ const STEP: f32 = 0.0625;
 /// Where steps of the ladder are compared: at depth 4 and 6 the bit error rate is between 1e-5 and 2e-4 there.
 const STEP_POINTS: [(Code, f64); 4] = [(RANGES[0].0, 5.0), (RANGES[1].0, 5.0), (RANGES[2].0, 6.0), (RANGES[3].0, 5.5)];
 
+/// The code of the tables that show what the marks mean, with Eb/N0 and depths.
+const MARKED: Code = RANGES[0].0;
+const MARK_POINTS: [f64; 4] = [3.0, 4.0, 5.0, 6.0];
+const MARK_DEPTHS: [usize; 2] = [0, 4];
+
+/// The point of these tables where sure words are wrong most seldom: it may go on for five times as many bits.
+const LONGER: (Code, f64) = (MARKED, 6.0);
+
+/// Where the margins of fair words are looked at.
+const MARGIN_POINTS: [f64; 3] = [3.0, 4.0, 5.0];
+const MARGIN_DEPTH: usize = 4;
+
 /// The bit error rate at which decoders are compared.
 const TARGET: f64 = 1e-5;
 
@@ -33,23 +49,23 @@ const NOISE: f64 = 0.008;
 
 fn main() -> Result<(), Box<dyn Error>> {
     let docs = Path::new(concat!(env!("CARGO_MANIFEST_DIR"), "/../docs"));
+    let [counts, page] = ["error-rates.tsv", "ERROR-RATES.md"].map(|name| docs.join(name));
     match env::args().nth(1).as_deref() {
         None => {
             let rows = simulate(FULL)?;
-            let tables = tables(&rows);
-            print!("{tables}");
-            write_rows(&docs.join("error-rates.tsv"), &rows)?;
-            write_tables(&docs.join("ERROR-RATES.md"), &tables)
+            write_rows(&counts, &rows)?;
+            write_page(&page, &rows)
         }
+        Some("--tables") => write_page(&page, &read_rows(&counts)?),
         Some("--quick") => {
-            print!("{}", tables(&simulate(QUICK)?));
+            print!("{}", parts(&simulate(QUICK)?, 1).join("\n"));
             Ok(())
         }
         Some("--steps") => {
             compare_steps();
             Ok(())
         }
-        Some(_) => Err("usage: rates [--quick | --steps]".into()),
+        Some(_) => Err("usage: rates [--tables | --quick | --steps]".into()),
     }
 }
 
@@ -61,7 +77,8 @@ fn simulate(limit: Limit) -> Result<Vec<Row>, String> {
         let steps = ((last - first) * 2.0) as u32;
         for step in 0..=steps {
             let channel = Channel::new(code, first + 0.5 * f64::from(step), STEP);
-            let point = channel.measure(limit);
+            let times = if (code, channel.ebn0) == LONGER { 5 } else { 1 };
+            let point = channel.measure(Limit { bits: times * limit.bits, ..limit });
             print_point(&point);
             check(&channel, &point)?;
             rows.extend(point);
@@ -73,21 +90,24 @@ fn simulate(limit: Limit) -> Result<Vec<Row>, String> {
 
 fn print_head(code: Code) {
     println!("{}", name(code));
-    println!("{:14}{:>66}{:>58}{:>38}{:>38}", "", "bit error rate", "word error rate", "mean tries", "sure, %");
+    println!("{:14}{:>66}{:>58}{:>38}{:>38}{:>44}", "", "bit error rate", "word error rate", "mean tries", "sure, %", "sure but wrong");
     print!("{:>5}{:>9}", "Eb/N0", "words");
-    print_fields(&DECODERS, |decoder| format!("{decoder:>8}"));
-    print_fields(&DECODERS[1..], |decoder| format!("{decoder:>8}"));
-    print_fields(&DECODERS[2..], |decoder| format!("{decoder:>6}"));
-    print_fields(&DECODERS[2..], |decoder| format!("{decoder:>6}"));
+    print_fields(&[&DECODERS[..1], &COMPARED].concat(), |decoder| format!("{decoder:>8}"));
+    print_fields(&COMPARED, |decoder| format!("{decoder:>8}"));
+    print_fields(&DEEP, |decoder| format!("{decoder:>6}"));
+    print_fields(&DEEP, |decoder| format!("{decoder:>6}"));
+    print_fields(&MARKING, |decoder| format!("{decoder:>6}"));
     println!();
 }
 
 fn print_point(point: &[Row]) {
+    let of = |decoders: &[Decoder]| -> Vec<Row> { point.iter().filter(|row| decoders.contains(&row.decoder)).copied().collect() };
     print!("{:>5.1}{:>9}", point[0].ebn0, point[0].count.words);
-    print_fields(point, |row| format!("{:>8.1e}", row.bit_error_rate()));
-    print_fields(&point[1..], |row| format!("{:>8.1e}", row.word_error_rate()));
-    print_fields(&point[2..], |row| format!("{:>6.2}", row.mean_tries()));
-    print_fields(&point[2..], |row| format!("{:>6.1}", 100.0 * row.sure_share()));
+    print_fields(&[&point[..1], &of(&COMPARED)].concat(), |row| format!("{:>8.1e}", row.bit_error_rate()));
+    print_fields(&of(&COMPARED), |row| format!("{:>8.1e}", row.word_error_rate()));
+    print_fields(&of(&DEEP), |row| format!("{:>6.2}", row.mean_tries()));
+    print_fields(&of(&DEEP), |row| format!("{:>6.1}", 100.0 * row.sure_share()));
+    print_fields(&of(&MARKING), |row| format!("{:>6}", row.count.wrong_sure));
     println!();
 }
 
@@ -114,6 +134,25 @@ fn agree(errors: u64, sent: u64, probability: f64) -> Result<(), String> {
     Ok(())
 }
 
+/// Prints the tables and puts them in the page.
+fn write_page(page: &Path, rows: &[Row]) -> Result<(), Box<dyn Error>> {
+    let parts = parts(rows, 32);
+    print!("{}", parts.join("\n"));
+    write_parts(page, &parts)
+}
+
+/// The parts of the page that are written here, in their order. The margins are those of so many rounds of words.
+fn parts(rows: &[Row], rounds: u64) -> [String; 5] {
+    let margins = MARGIN_POINTS.map(|ebn0| (ebn0, Channel::new(MARKED, ebn0, STEP).fair_margins(MARGIN_DEPTH, rounds)));
+    [
+        tables(rows),
+        mark_tables::short_table(rows, MARKED, &MARK_POINTS, &MARK_DEPTHS),
+        mark_tables::margin_table(&margins),
+        mark_tables::depth_tables(rows),
+        mark_tables::code_tables(rows),
+    ]
+}
+
 /// The gains and tries, in Markdown.
 fn tables(rows: &[Row]) -> String {
     let gain = |code, decoder| {
@@ -129,22 +168,21 @@ fn tables(rows: &[Row]) -> String {
         let row = curve(rows, code, decoder).into_iter().find(|row| row.ebn0 == noise.ebn0)?;
         Some(if row == noise { format!("{:.2} % wrong", 100.0 * row.bit_error_rate()) } else { format!("{:.1}", row.saving()) })
     };
-    let soft = &DECODERS[2..];
     [
-        table("Gain over hard decoding in dB, at a bit error rate of 1e-5", rows, &DECODERS[1..], gain),
+        table("Gain over hard decoding in dB, at a bit error rate of 1e-5", rows, &COMPARED, gain),
         table(
             "How many times more 2^p is than the mean tries (and these, at Eb/N0 in dB), at the point nearest to that rate",
             rows,
-            soft,
+            &DEEP,
             tries,
         ),
         table(
             "The same at the point where the share of bits that arrive wrong is, by its logarithm, nearest to 0.8 percent",
             rows,
-            &[&DECODERS[..1], soft].concat(),
+            &[&DECODERS[..1], &DEEP].concat(),
             saving,
         ),
-        table("Sure words in percent, at the point nearest to a bit error rate of 1e-5", rows, soft, sure),
+        table("Sure words in percent, at the point nearest to a bit error rate of 1e-5", rows, &DEEP, sure),
     ]
     .join("\n")
 }
@@ -160,27 +198,34 @@ fn table(title: &str, rows: &[Row], decoders: &[Decoder], cell: impl Fn(Code, De
     text
 }
 
-/// Puts the tables in the page, between the two lines that mark their place.
-fn write_tables(page: &Path, tables: &str) -> Result<(), Box<dyn Error>> {
+/// Puts the parts in the page, each between the two lines that mark its place.
+fn write_parts(page: &Path, parts: &[String]) -> Result<(), Box<dyn Error>> {
     const MARKS: [&str; 2] = ["<!-- written by rates -->\n", "<!-- end -->\n"];
     let text = fs::read_to_string(page)?;
-    let [start, end] = MARKS.map(|mark| text.find(mark));
-    let (start, end) = start.zip(end).ok_or("the page has no place for the tables")?;
-    fs::write(page, format!("{}{}\n{tables}\n{}", &text[..start], MARKS[0], &text[end..]))?;
+    let places: Vec<&str> = text.split(MARKS[0]).collect();
+    if places.len() != parts.len() + 1 {
+        return Err(format!("the page has {} places for {} parts", places.len() - 1, parts.len()).into());
+    }
+    let mut written = places[0].to_string();
+    for (place, part) in places[1..].iter().zip(parts) {
+        let end = place.find(MARKS[1]).ok_or("a place on the page has no end")?;
+        written += &format!("{}\n{part}\n{}", MARKS[0], &place[end..]);
+    }
+    fs::write(page, written)?;
     Ok(())
 }
 
 /// Prints bit error rates and mean tries with several steps of the ladder and the same noise.
 fn compare_steps() {
-    const LIMIT: Limit = Limit { word_errors: u64::MAX, bits: 40_000_000 };
+    const LIMIT: Limit = Limit { word_errors: u64::MAX, wrong_sure: 0, bits: 40_000_000 };
     const STEPS: [f32; 8] = [0.025, 0.05, 0.0625, 0.075, 0.1, 0.125, 0.15, 0.2];
     println!("{:13}{:>6}{:>6}{}", "step", "Eb/N0", "depth", STEPS.map(|step| format!("{step:>15}")).concat());
     for (code, ebn0) in STEP_POINTS {
         let points = STEPS.map(|step| Channel::new(code, ebn0, step).measure(LIMIT));
-        for decoder in [3, 5, 7] {
-            let cell = |point: &Vec<Row>| format!("{:>9.2e}{:>6.2}", point[decoder].bit_error_rate(), point[decoder].mean_tries());
-            let cells: String = points.iter().map(cell).collect();
-            println!("{:13}{ebn0:>6.1}{:>6}{cells}", name(code), DECODERS[decoder]);
+        for decoder in [Decoder::Soft(2), Decoder::Soft(4), Decoder::Soft(6)] {
+            let cell = |row: Row| format!("{:>9.2e}{:>6.2}", row.bit_error_rate(), row.mean_tries());
+            let cells: String = points.iter().flat_map(|point| curve(point, code, decoder)).map(cell).collect();
+            println!("{:13}{ebn0:>6.1}{decoder:>6}{cells}", name(code));
         }
     }
 }
