@@ -3,20 +3,18 @@
 use mathlib.Core.Path.{_≡_, refl}
 use mathlib.Core.List.{[], _∷_}
 use lib.IntN.{pos, negsuc}
-use Rattle.chase.specs.Soft.{lostAnswer}
-use Rattle.receiver.specs.Answer.{softOf}
-use Rattle.receiver.specs.declared.Soft.the-variants.{Lost, Fair, Sure}
+use Rattle.chase.specs.Soft.{fair, sure, lostAnswer}
 use Rattle.listing.specs.Text.{ascii, decimal, digits, signed, markName, messageText, bitsText, line, wordLine, totalsLine, refusalLine}
-use Rattle.listing.specs.Calls.{answerLine, softLine}
 
 -- ---- the example
 
-example-sure : softLine 0 (Sure 1 (pos 5) 1 0 1) (0 ∷ []) ≡ ascii "0 sure 1 5 1 0\n"
-unfolding answerLine softOf wordLine line markName messageText bitsText signed decimal digits ascii
+example-sure : wordLine 0 (record { mark = sure; distance = 1; margin = pos 5; flips = 1; place = 0; tries = 1; word = [] }) (0 ∷ [])
+    ≡ ascii "0 sure 1 5 1 0\n"
+unfolding wordLine line markName messageText bitsText signed decimal digits ascii
 example-sure = refl
 
-example-lost : softLine 1 (Lost 1) (0 ∷ []) ≡ ascii "1 lost 0 0 1 -\n"
-unfolding answerLine softOf lostAnswer wordLine line markName messageText bitsText signed decimal digits ascii
+example-lost : wordLine 1 (lostAnswer 1) (0 ∷ []) ≡ ascii "1 lost 0 0 1 -\n"
+unfolding lostAnswer wordLine line markName messageText bitsText signed decimal digits ascii
 example-lost = refl
 
 example-totals : totalsLine (record { words = 2; sures = 1; fairs = 0; losts = 1; tries = 2 }) ≡ ascii "2 1 0 1 2\n"
@@ -25,8 +23,10 @@ example-totals = refl
 
 -- ---- other lines
 
-negative-margin : softLine 10 (Fair 23 (negsuc 6) 3 5 64) (1 ∷ 0 ∷ 1 ∷ 1 ∷ []) ≡ ascii "10 fair 23 -7 64 1011\n"
-unfolding answerLine softOf wordLine line markName messageText bitsText signed decimal digits ascii
+negative-margin : wordLine 10 (record { mark = fair; distance = 23; margin = negsuc 6; flips = 3; place = 5; tries = 64; word = [] })
+    (1 ∷ 0 ∷ 1 ∷ 1 ∷ [])
+    ≡ ascii "10 fair 23 -7 64 1011\n"
+unfolding wordLine line markName messageText bitsText signed decimal digits ascii
 negative-margin = refl
 
 refusal : refusalLine (record { number = 9; place = 255 }) ≡ ascii "refused 9 255\n"

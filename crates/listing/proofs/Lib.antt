@@ -2,6 +2,5 @@ pub mod Texts
 pub mod Decimals
 pub mod Signs
 pub mod Rows
-pub mod Answers
 pub mod Cases
 pub mod Listings

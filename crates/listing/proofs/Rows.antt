@@ -1,33 +1,23 @@
--- Laws of lines as the rows of fields that the code writes. Assumes nothing.
+-- Laws of lines as the fields that the code writes. Assumes nothing.
 use Prim.Native.Nat.{ℕ}
-use mathlib.Core.Path.{_≡_, refl, ap, _∙_}
+use mathlib.Core.Path.{_≡_, refl, ap, sym, _∙_}
+use mathlib.Core.Logic.{_⊎_, inr}
 use mathlib.Core.List.{List, [], _∷_, _++_, append-assoc}
-use Rattle.chase.specs.Soft.{lostAnswer}
+use mir.Syntax.{w32}
+use mir.Val.{SFits, toZ, ofZ}
+use Rattle.chase.specs.Soft.{Answer, lostAnswer}
 use Rattle.take_format.specs.Refusal.{Refusal}
 use Rattle.take_format.specs.Batch.{Totals}
-use Rattle.listing.specs.Text.{ascii, digits, decimal, signed, markName, messageText, line, wordLine, totalsLine, refusalLine}
-use Rattle.listing.specs.Buffer.{spaced}
+use Rattle.receiver.specs.Answer.{softOf}
+use Rattle.receiver.specs.declared.Soft.{Soft}
+use Rattle.listing.specs.Text.{ascii, digits, decimal, signed, markName, messageText, line, totalsLine, refusalLine}
+use Rattle.listing.specs.Buffer.{answerText, softText}
+use Rattle.listing.proofs.Signs.{read-again}
 
--- one field more before others
-pub spaced-cons : (f : List ℕ) (fs : List (List ℕ)) → (f ++ (32 ∷ [])) ++ spaced fs ≡ spaced (f ∷ fs)
-unfolding spaced
-spaced-cons f fs = append-assoc f (32 ∷ []) (spaced fs)
-
--- a line is its first fields, each with a space behind it, and the line of the others
-line-parts : (fs : List (List ℕ)) (g : List ℕ) (gs : List (List ℕ)) → spaced fs ++ line (g ∷ gs) ≡ line (fs ++ (g ∷ gs))
-unfolding line spaced
-line-parts [] g gs = refl
-line-parts (f ∷ []) g gs = append-assoc f (32 ∷ []) (line (g ∷ gs))
-line-parts (f ∷ h ∷ fs) g gs = append-assoc f (32 ∷ spaced (h ∷ fs)) (line (g ∷ gs)) ∙ ap (λ (t : List ℕ). f ++ (32 ∷ t)) (line-parts (h ∷ fs) g gs)
-
--- two fields, three, and the last
-pub found-text : (a b c : List ℕ) {d d′ : List ℕ} (e f : List ℕ) → d ≡ d′
-    → spaced (a ∷ b ∷ []) ++ (spaced (c ∷ d ∷ e ∷ []) ++ (f ++ (10 ∷ []))) ≡ line (a ∷ b ∷ c ∷ d′ ∷ e ∷ f ∷ [])
-unfolding line
-found-text a b c {d} {d′} e f p =
-    ap (λ (t : List ℕ). spaced (a ∷ b ∷ []) ++ t)
-    (ap (λ (t : List ℕ). spaced (c ∷ t ∷ e ∷ []) ++ (f ++ (10 ∷ []))) p ∙ line-parts (c ∷ d′ ∷ e ∷ []) f [])
-    ∙ line-parts (a ∷ b ∷ []) c (d′ ∷ e ∷ f ∷ [])
+-- a refusal
+pub refusal-text : (r : Refusal) → ascii "refused " ++ ((decimal (r .number) ++ (32 ∷ [])) ++ (decimal (r .place) ++ (10 ∷ []))) ≡ refusalLine r
+unfolding refusalLine line ascii
+refusal-text r = simp append-assoc
 
 -- the totals
 pub totals-text : (k : Totals)
@@ -38,13 +28,40 @@ pub totals-text : (k : Totals)
 unfolding totalsLine line
 totals-text k = simp append-assoc
 
--- a refusal
-pub refusal-text : (r : Refusal) → ascii "refused " ++ ((decimal (r .number) ++ (32 ∷ [])) ++ (decimal (r .place) ++ (10 ∷ []))) ≡ refusalLine r
-unfolding refusalLine line ascii
-refusal-text r = simp append-assoc
+-- ---- behind a word's index
 
--- a word that is lost
-pub lost-text : (i tries : ℕ)
-    → (decimal i ++ (32 ∷ [])) ++ (ascii "lost 0 0 " ++ ((decimal tries ++ (32 ∷ [])) ++ ascii "-\n")) ≡ wordLine i (lostAnswer tries) []
-unfolding wordLine lostAnswer line ascii markName messageText signed decimal digits
-lost-text i tries = simp append-assoc
+-- of a word that is lost, ..
+pub lost-text : (tries : ℕ) → ascii "lost 0 0 " ++ ((decimal tries ++ (32 ∷ [])) ++ ascii "-\n") ≡ answerText (inr (lostAnswer tries)) []
+unfolding answerText lostAnswer line ascii markName messageText signed decimal digits
+lost-text tries = simp append-assoc
+
+-- .. which has no bits in it
+pub lost-bits : (tries : ℕ) (bits : List ℕ) → answerText (inr (lostAnswer tries)) [] ≡ answerText (inr (lostAnswer tries)) bits
+unfolding answerText lostAnswer messageText
+lost-bits tries bits = refl
+
+-- of another one: the numbers and the message behind the mark
+pub found-text : (mark a : List ℕ) {b b′ : List ℕ} (c d : List ℕ) → b ≡ b′
+    → mark ++ ((a ++ (32 ∷ (b ++ (32 ∷ (c ++ (32 ∷ [])))))) ++ (d ++ (10 ∷ []))) ≡ mark ++ line (a ∷ b′ ∷ c ∷ d ∷ [])
+unfolding line
+found-text mark a c d p = rw p (simp append-assoc)
+
+-- by the case of the receiver's answer
+pub by-case : (bits : List ℕ) {a b : Soft} → a ≡ b → softText b bits ≡ softText a bits
+by-case bits e = sym (ap (λ (x : Soft). softText x bits) e)
+
+-- with the margin read back
+pub found-case : (bits : List ℕ) {a b : Soft} {x : Answer} → a ≡ b → softOf b bits ≡ inr x → SFits w32 (x .margin)
+    → line
+    (markName (x .mark)
+    ∷ decimal (x .distance)
+    ∷ signed (toZ w32 (ofZ w32 (x .margin)))
+    ∷ decimal (x .tries)
+    ∷ messageText (x .mark) bits
+    ∷ [])
+    ≡ softText a bits
+unfolding answerText
+found-case bits {a} {b} {x} e h f =
+    ap (λ (t : List ℕ). line (markName (x .mark) ∷ decimal (x .distance) ∷ t ∷ decimal (x .tries) ∷ messageText (x .mark) bits ∷ []))
+    (read-again (x .margin) f)
+    ∙ sym (ap (λ (o : Refusal ⊎ Answer). answerText o bits) h) ∙ by-case bits e

@@ -4,8 +4,8 @@ use Prim.Native.Nat.{ℕ, _+_, _≤_, _<_}
 use native.Mathlib.Omega.{arith}
 use native.Mathlib.Numerals.{add-one}
 use mathlib.Core.Path.{_≡_, refl, ap, ap₂, sym, subst, _∙_}
-use mathlib.Core.List.{List, [], _∷_, _++_, append-assoc}
-use lib.ListN.{length, take, drop, getD, set, length-append, length-drop, length-map, List·getD-map}
+use mathlib.Core.List.{List, [], _∷_, _++_, append-assoc, append-nil}
+use lib.ListN.{length, take, drop, getD, set, length-append, length-drop, length-map, take-append-drop, List·getD-map}
 use lib.Seq.{paste, paste-suc, take-length, set-split, append-snoc, take-at, drop-at, drop-drop, length-take-le}
 use Rattle.listing.specs.Text.{bitsText}
 use Rattle.listing.specs.Buffer.{Put}
@@ -15,6 +15,12 @@ use Rattle.listing.specs.Buffer.{Put}
 -- the same text by another name
 pub same-text : {old now a b : List ℕ} {at end : ℕ} → a ≡ b → Put old at a now end → Put old at b now end
 same-text {old} {now} {a} {b} {at} {end} e p = subst (λ (t : List ℕ). Put old at t now end) e p
+
+-- none
+pub put-none : {old : List ℕ} {at end : ℕ} → at ≤ length old → end ≡ at → Put old at [] old end
+put-none {old} {at} {end} h e =
+    let z : at + 0 ≡ at = omega arith in
+    record { room = omega arith; ends = e ∙ sym z; holds = rw (z, append-nil) (sym (take-append-drop at old)) }
 
 -- one character
 pub put-one : (old : List ℕ) (at c : ℕ) → at + 1 ≤ length old → Put old at (c ∷ []) (set old at c) (at + 1)

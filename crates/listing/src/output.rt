@@ -21,7 +21,7 @@ pub struct Progress {
     pub totals: Totals,
 }
 
-// The length of a word, ..
+// The length of a word.
 fn long(h: Header) -> usize
     ensures { λ r. ⌜ r ≡ h .n ⌝ }
 {
@@ -35,7 +35,7 @@ fn byte(x: u8) -> usize
     x as usize
 }
 
-// .. and of its parity.
+// The length of its parity.
 fn parity(h: Header) -> usize
     ensures { λ r. ⌜ r ≡ h .m * h .t ⌝ }
 {
@@ -58,8 +58,7 @@ fn list_word(
 {
     let answer = decode_word(take, h, w, codeword);
     let start = parity(h);
-    let end = long(h);
-    let next = lines::word(text, k.at, w, answer, &codeword[start..end]);
+    let next = lines::word(text, k.at, w, answer, &codeword[start..]);
     Progress {
         at: next,
         totals: counted(k.totals, answer),

@@ -1,13 +1,11 @@
 -- Three fields with a space behind each. Assumes nothing.
 use native.Mathlib.Omega.{arith}
 use mathlib.Core.Path.{ap}
-use mathlib.Core.List.{[], _∷_}
+use mathlib.Core.List.{[], _∷_, append-assoc}
 use borrow.Author.Needs.{needs}
 use lib.ListN.{length}
-use Rattle.listing.specs.Text.{decimal, signed}
-use Rattle.listing.specs.Buffer.{spaced}
+use Rattle.listing.specs.Text.{decimal}
 use Rattle.listing.proofs.Texts.{same-text, then}
-use Rattle.listing.proofs.Rows.{spaced-cons}
 use Rattle.listing.proofs.Signs.{read-again, signed-long}
 use Rattle.listing.proofs.lines.numbers.Statement.{statement}
 use Rattle.listing.proofs.lines.numbers.Tie as tie
@@ -67,7 +65,6 @@ same-length : tie.Need-same-length
 same-length c = search needs
 
 returns : tie.Need-returns
-unfolding spaced
 returns c =
     let s = c .before .before .before .before .before .before .before .before .before .before .before .before .before .before .before .before .before in
     let n = c .before .before .before .before .before .before .before .before .before .before .before .before .before .before .number-and .ensures in
@@ -76,7 +73,7 @@ returns c =
     let h = c .before .before .before .before .before .before .character .ensures in
     let t = c .before .before .number-and2 .ensures in
     let a = s .args in (
-      same-text (spaced-cons (decimal (a .distance)) (signed (a .margin) ∷ decimal (a .tries) ∷ [])) (then (n .0) (then m (then h (t .0)))),
+      same-text (append-assoc (decimal (a .distance)) (32 ∷ []) _) (then (n .0) (then m (then h (t .0)))),
       omega (arith, n .1, m .ends, h .ends, t .1, signed-long (s .args .margin) (s .fits .margin)),
     )
 

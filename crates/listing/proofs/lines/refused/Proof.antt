@@ -1,5 +1,4 @@
 -- `refused ` and two numbers. Assumes nothing.
-use native.Mathlib.Omega.{arith}
 use borrow.Author.Needs.{needs}
 use Rattle.listing.specs.Text.{ascii}
 use Rattle.listing.proofs.Texts.{same-text, then}
@@ -24,16 +23,9 @@ same-length c = search needs
 
 returns : tie.Need-returns
 unfolding ascii
-returns c = (
-  same-text (refusal-text _) (then (c .before .before .before .before .before .before .before .before .before .before .characters .ensures)
-      (then (c .before .before .before .before .before .before .number-and .ensures .0) (c .before .before .number-and2 .ensures .0))),
-  omega (
-    arith,
-    c .before .before .before .before .before .before .before .before .before .before .characters .ensures .ends,
-    c .before .before .before .before .before .before .number-and .ensures .1,
-    c .before .before .number-and2 .ensures .1,
-  ),
-)
+returns c =
+    same-text (refusal-text _) (then (c .before .before .before .before .before .before .before .before .before .before .characters .ensures)
+    (then (c .before .before .before .before .before .before .number-and .ensures .0) (c .before .before .number-and2 .ensures .0)))
 
 pub refused-spec : {M : Type 1} → statement M
 refused-spec =
