@@ -21,25 +21,11 @@ pub struct Progress {
     pub totals: Totals,
 }
 
-// The length of a word.
-fn long(h: Header) -> usize
-    ensures { λ r. ⌜ r ≡ h .n ⌝ }
-{
-    h.n as usize
-}
-
-// A byte as a wider number.
-fn byte(x: u8) -> usize
-    ensures { λ r. ⌜ (r ≡ x) × (r < 256) ⌝ }
-{
-    x as usize
-}
-
-// The length of its parity.
+// The length of a word's parity.
 fn parity(h: Header) -> usize
     ensures { λ r. ⌜ r ≡ h .m * h .t ⌝ }
 {
-    byte(h.m) * byte(h.t)
+    h.m as usize * h.t as usize
 }
 
 // One word more.
@@ -95,7 +81,7 @@ pub fn list_take(take: &[u8], h: Header, text: &mut [u8]) -> usize
     ensures { λ r. ⌜ Put (now (text .entry)) 0 (takeText (now (take .entry))) (now (text .exit)) r ⌝ }
 {
     let mut codeword = [0u8; 1023];
-    let n = long(h);
+    let n = h.n as usize;
     let k = list_words(take, h, &mut codeword[..n], text);
     lines::totals(text, k.at, k.totals)
 }

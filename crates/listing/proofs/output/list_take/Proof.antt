@@ -19,27 +19,22 @@ use Rattle.listing.proofs.output.list_take.Tie as tie
 part-long : (n : ℕ) → n ≤ 1023 → length {A = ℕ} (take n (replicate 1023 0)) ≡ n
 part-long n h = omega (arith, length-take {A = ℕ} n (replicate 1023 0))
 
-long-requires : tie.Need-long-requires
-long-requires c κs = search needs
+cast-n : tie.Need-cast-n
+cast-n c = search needs
 
 array-borrow-prefix-codeword : tie.Need-array-borrow-prefix-codeword
-array-borrow-prefix-codeword c =
-    let s = c .before .before .before in
-    omega (arith, c .long .ensures, code-short _ (headerOf (s .args .h)) (s .pre .0))
+array-borrow-prefix-codeword c = let s = c .before .before .before in omega (arith, code-short _ (headerOf (s .args .h)) (s .pre .0))
 
 slice-aggregate-list-words : tie.Need-slice-aggregate-list-words
-slice-aggregate-list-words c =
-    let s = c .before .before .before .before in
-    sym (part-long (c .before .long .result) (omega (arith, c .before .long .ensures, code-short _ (headerOf (s .args .h)) (s .pre .0))))
+slice-aggregate-list-words c = let s = c .before .before .before .before in sym (part-long (s .args .h .n) (code-short _ (headerOf (s .args .h)) (s .pre .0)))
 
 list-words-requires : tie.Need-list-words-requires
 list-words-requires c κs =
     let s = c .before .before .before .before .before in
-    let n = c .before .before .long .result in (
+    let n = s .args .h .n in (
       s .pre .0,
       record {
-        long =
-            part-long n (omega (arith, c .before .before .long .ensures, code-short _ (headerOf (s .args .h)) (s .pre .0))) ∙ c .before .before .long .ensures;
+        long = part-long n (code-short _ (headerOf (s .args .h)) (s .pre .0));
         bits = below-take 2 n (replicate 1023 0) (below-zeros 1 1023);
       },
       s .pre .1,
@@ -67,7 +62,7 @@ pub list-take-spec : {M : Type 1} → statement M
 list-take-spec =
     tie.close
     (tie.spec
-    long-requires
+    cast-n
     array-borrow-prefix-codeword
     slice-aggregate-list-words
     list-words-requires
