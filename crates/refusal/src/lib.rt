@@ -220,7 +220,7 @@ pub fn at_most_from(number: usize, most: u8, bytes: &[u8], start: usize) -> Chec
 }
 
 // All bytes.
-pub fn at_most(number: usize, most: u8, bytes: &[u8]) -> Check
+fn at_most(number: usize, most: u8, bytes: &[u8]) -> Check
     ensures { λ r. ⌜ checked r ≡ unlessAtMost number most 0 (now (bytes .entry)) ⌝ }
 {
     at_most_from(number, most, bytes, 0)
