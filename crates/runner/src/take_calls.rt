@@ -11,6 +11,9 @@ use takes::Opening;
 // The longest take that a record may have, and the longest of its buffers: a take that is too long for takelist has 65,537 bytes.
 const TAKE: usize = 66000;
 
+// The longest codeword that a record may have.
+const WORD: usize = 1024;
+
 // Room for a take. The `ensures` gives only the length, which lending the array needs.
 fn room() -> [u8; TAKE]
     ensures { λ r. ⌜ 66000 ≡ length r ⌝ }
@@ -24,9 +27,6 @@ fn sevens() -> [u8; TAKE]
 {
     [7; TAKE]
 }
-
-// The longest codeword that a record may have.
-const WORD: usize = 1024;
 
 // Prints a header.
 fn header(h: Header) {

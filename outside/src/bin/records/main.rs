@@ -17,7 +17,7 @@
 //!     list TAKE                         what takelist prints
 //!     weights M T N                     weights WEIGHT:COUNT .., of all codewords
 //!
-//! Or `refused NUMBER PLACE` and the buffers; none is shown for a word of a take that does not open.
+//! Or `refused NUMBER PLACE` and the buffers.
 //!
 //! No answer comes from the receiver. Those in `published`, `linux` and `worked` are numbers that others have printed; the rest is answered
 //! by the second implementation of document 01, which is held to all that is known besides.
