@@ -7,7 +7,8 @@ use Rattle.runner.proofs.weights.count_all.Statement.{statement}
 use Rattle.runner.proofs.weights.count_all.Tie as tie
 
 abbrev Inv-loop : tie.InvT-loop
-Inv-loop c message₀ codeword₀ counts₀ most number₀ message codeword counts number = (length message ≡ length message₀) × (length codeword ≡ length codeword₀) × (length counts ≡ length counts₀)
+Inv-loop c message₀ codeword₀ counts₀ most number₀ message codeword counts number =
+    (length message ≡ length message₀) × (length codeword ≡ length codeword₀) × (length counts ≡ length counts₀)
 
 abbrev μ-loop : tie.MeasureT-loop
 μ-loop c message₀ codeword₀ counts₀ most number₀ message codeword counts number = most - number
