@@ -3,7 +3,7 @@ use Prim.Native.Nat.{ℕ, _-_, _/_, _^_, _≤_, _<_}
 use native.Mathlib.Omega.{arith}
 use mathlib.Core.Path.{_≡_, sym, _∙_, subst}
 use mathlib.Core.Bool.{true, false}
-use mathlib.Core.List.{List}
+use mathlib.Core.List.{List, _++_}
 use mathlib.Core.Option.{none, Option·map}
 use lib.ListN.{length, getD, take}
 use lib.Pow.{pow-mono}
@@ -23,6 +23,7 @@ use Rattle.chase.proofs.search.Tries.{try-parts, try-missed, try-placed, try-di
 use Rattle.chase.proofs.weighing.Weights.{Weighs, packedWeight, weighs-small}
 use Rattle.refusal.specs.Named.{codeOf}
 use Rattle.refusal.specs.declared.Code as refusal
+use Rattle.ranking.specs.declared.Keys.{Keys}
 use Rattle.receiver.specs.Located.{flipsOf, sumsAt, AreSyndromes, locatedAt, Sought}
 use Rattle.receiver.specs.Search.{pickOf, pickBy, judgedBy, Sound, Tried, Ready, TestWords}
 use Rattle.receiver.specs.declared.locate.Flips.{Flips}
@@ -40,7 +41,14 @@ test-words c p b to ss ts h e m l holds =
       long,
     )
 
-module _ (c : refusal.Code) (tables ss ks : List ℕ) (p : ℕ) (ts : List ℕ) (ready : Ready c tables ss ks p) (tests : TestWords (codeOf c) p ss ts) where
+module _ (c : refusal.Code) (tables ss : List ℕ) (keys : Keys) (p : ℕ) (ts : List ℕ) (ready : Ready c tables ss keys p) (tests : TestWords (codeOf c) p ss ts) where
+  -- the first six keys, and all eight
+  abbrev ks : List ℕ
+  ks = keys .at
+
+  abbrev ls : List ℕ
+  ls = keys .at ++ keys .more
+
   abbrev lawful : Lawful (codeOf c)
   lawful = ready .filled .fielded .made .lawful
 
@@ -51,12 +59,12 @@ module _ (c : refusal.Code) (tables ss ks : List ℕ) (p : ℕ) (ts : List ℕ) 
   -- what test word j has been found to have
   missed : (j : ℕ) → j < length ts → locatedAt c tables ts j ≡ none → Option·map (candidate (codeOf c) p ss j) (tried (codeOf c) p ss j) ≡ none
   missed j h e =
-      try-missed (c .m) (c .t) (c .n) lawful tables (ready .filled .tables) ss ks p (ready .deep) (ready .long) j (sumsAt ts j) (are-sums j h) e
+      try-missed (c .m) (c .t) (c .n) lawful tables (ready .filled .tables) ss ks ls p (ready .deep) (ready .long) j (sumsAt ts j) (are-sums j h) e
 
   -- the syndromes are elements
   pub are-syndromes : AreSyndromes c ts
   are-syndromes j h =
-      try-parts (c .m) (c .t) (c .n) lawful tables (ready .filled .tables) ss ks p (ready .deep) (ready .long) j (sumsAt ts j) (are-sums j h)
+      try-parts (c .m) (c .t) (c .n) lawful tables (ready .filled .tables) ss ks ls p (ready .deep) (ready .long) j (sumsAt ts j) (are-sums j h)
 
   module _ (o : Outcome) (unsure : o .sure ≡ false) (t : Tried (codeOf c) p ss o) (tries : ℕ) (f : Flips)
       (next : Sought c tables ts (o .tries) tries f) where
@@ -84,7 +92,7 @@ module _ (c : refusal.Code) (tables ss ks : List ℕ) (p : ℕ) (ts : List ℕ) 
       pub turn-distinct : Distinct (length ss) (flipsOf f)
       turn-distinct =
           subst (λ (n : ℕ). Distinct n (flipsOf f)) (sym (ready .long))
-          (try-distinct (c .m) (c .t) (c .n) lawful tables (ready .filled .tables) ss ks p (ready .deep) (ready .long) j (sumsAt ts j) (are-sums j j-lt)
+          (try-distinct (c .m) (c .t) (c .n) lawful tables (ready .filled .tables) ss ks ls p (ready .deep) (ready .long) j (sumsAt ts j) (are-sums j j-lt)
           (f .found) (f .count) (f .at) (next .there found .2) found)
 
       -- its candidate is judged
@@ -93,14 +101,14 @@ module _ (c : refusal.Code) (tables ss ks : List ℕ) (p : ℕ) (ts : List ℕ) 
         d = designDistance (codeOf c)
 
         abbrev A : ℕ
-        A = weighed (take (d - w .q) ks)
+        A = weighed (take (d - w .q) ls)
 
         abbrev counted : Outcome
         counted = record { sure = o .sure; tries = tries; pick = o .pick }
 
         placed : Placed (c .n) (f .count) (f .at)
         placed =
-            try-placed (c .m) (c .t) (c .n) lawful tables (ready .filled .tables) ss ks p (ready .deep) (ready .long) j (sumsAt ts j) (are-sums j j-lt)
+            try-placed (c .m) (c .t) (c .n) lawful tables (ready .filled .tables) ss ks ls p (ready .deep) (ready .long) j (sumsAt ts j) (are-sums j j-lt)
             (f .found) (f .count) (f .at) (next .there found .2) found few three
 
         sound : Sound (c .n) (pickBy A counted w f)
@@ -108,16 +116,16 @@ module _ (c : refusal.Code) (tables ss ks : List ℕ) (p : ℕ) (ts : List ℕ) 
             let small =
             weighs-small ss (flippedAt (flipsOf f) (test p ss j)) (w .q) (w .sum) (ready .deep .ready .most)
             (length-candidate ss ks p (ready .deep .ready) j (flipsOf f)) weighs in
-            let most = weighed-most d ss ks p (ready .deep) (d - w .q) (omega arith) in
+            let most = weighed-most d ss ls (ready .deep .least) (ready .deep .there) (d - w .q) (omega arith) in
             record { placed = placed; sum-small = omega (arith, small .1); allowed-small = omega (arith, most, lawful .t-most) }
 
         stands : pickOf p ss (pickBy A counted w f) ≡ Option·map (candidate (codeOf c) p ss j) (tried (codeOf c) p ss j)
         stands =
             pick-some p ss (pickBy A counted w f) found
-            ∙ sym (try-some (c .m) (c .t) (c .n) lawful tables (ready .filled .tables) ss ks p (ready .deep) (ready .long) j (sumsAt ts j)
+            ∙ sym (try-some (c .m) (c .t) (c .n) lawful tables (ready .filled .tables) ss ks ls p (ready .deep) (ready .long) j (sumsAt ts j)
             (are-sums j j-lt) (f .found) (f .count) (f .at) (next .there found .2) found (w .q) (w .sum) A weighs (λ i. A))
 
-        pub turn-judged : Tried (codeOf c) p ss (judgedBy (weighed (take (designDistance (codeOf c) - w .q) ks))
+        pub turn-judged : Tried (codeOf c) p ss (judgedBy (weighed (take (designDistance (codeOf c) - w .q) (keys .at ++ keys .more)))
             (record { sure = o .sure; tries = tries; pick = o .pick }) w f)
         turn-judged =
             let (more, gone, _) = next .there found in

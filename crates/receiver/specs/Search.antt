@@ -3,7 +3,7 @@
 use Prim.Native.Nat.{ℕ, _-_, _^_, _≤_, _<_}
 use mathlib.Core.Path.{_≡_}
 use mathlib.Core.Bool.{Bool, true, false, cond}
-use mathlib.Core.List.{List}
+use mathlib.Core.List.{List, _++_}
 use mathlib.Core.Option.{Option, none, some}
 use lib.Dec.{ltb, leb}
 use lib.IntN.{subℕ}
@@ -18,6 +18,7 @@ use Rattle.chase.proofs.search.Ready.{Deep, packedTest}
 use Rattle.take_format.specs.Batch.{markByte}
 use Rattle.refusal.specs.Named.{codeOf}
 use Rattle.refusal.specs.declared.Code as refusal
+use Rattle.ranking.specs.declared.Keys.{Keys}
 use Rattle.receiver.specs.declared.locate.Flips.{Flips}
 use Rattle.receiver.specs.declared.weighing.Weight.{Weight}
 use Rattle.receiver.specs.declared.search.Pick.{Pick}
@@ -79,10 +80,11 @@ pub record Tried (c : Code) (p : ℕ) (ss : List ℕ) (o : Outcome) : Type 0 whe
   pub going : o .sure ≡ false → searchFrom c p ss (2 ^ p - o .tries) (o .tries) (pickOf p ss (o .pick)) ≡ softStage c p ss
 
 -- a ranked word and its code's tables
-pub record Ready (c : refusal.Code) (ts ss ks : List ℕ) (p : ℕ) : Type 0 where
+pub record Ready (c : refusal.Code) (ts ss : List ℕ) (k : Keys) (p : ℕ) : Type 0 where
   pub filled : Filled c ts
   pub long : length ss ≡ c .n
-  pub deep : Deep (designDistance (codeOf c)) ss ks p
+  pub deep : Deep (designDistance (codeOf c)) ss (k .at) (k .at ++ k .more) p
+  pub two : length (k .more) ≡ 2
 
 -- the first test words
 pub record TestWords (c : Code) (p : ℕ) (ss ts : List ℕ) : Type 0 where

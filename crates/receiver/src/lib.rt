@@ -38,8 +38,8 @@ use refusal::Refusal;
 
 mod all_words;
 mod hard_stage;
+mod least_keys;
 mod locate;
-mod ranking;
 mod search;
 mod soft_stage;
 mod tables;

@@ -4,6 +4,7 @@
 // once, and then each weak position doubles them. The search keeps numbers alone (`Outcome`); the codeword is written after it.
 ghost use mathlib.Core.Path.{_≡_};
 ghost use mathlib.Core.Bool.{false};
+ghost use mathlib.Core.List.{_++_};
 ghost use Prim.Native.Nat.{_-_, _^_, _<_, _≤_};
 ghost use lib.ListN.{length, take};
 ghost use Rattle.bch.proofs.logarithms.LogAnswers.{syndromesOf};
@@ -14,10 +15,10 @@ ghost use Rattle.receiver.specs.Search.{nearerPick, judgedBy, outcomeOf,
 use crate::hard_stage;
 use crate::locate;
 use crate::locate::Flips;
-use crate::ranking::Keys;
 use crate::test_words;
 use crate::weighing;
 use crate::weighing::Weight;
+use ranking::Keys;
 use refusal::Code;
 
 // A candidate by its numbers: q, L and A, the test word that gave it and where that is flipped. Where nothing is found it is none.
@@ -71,8 +72,8 @@ fn nearer(best: Pick, sum: u32) -> bool
 // The outcome with the candidate of the last try: it ends the search where its margin is 0 or more, and is kept where it is nearer than the
 // best so far.
 fn judged(d: usize, keys: Keys, o: Outcome, w: Weight, f: Flips) -> Outcome
-    requires { ⌜ (d ≤ 8) × (length (keys .at) ≡ 8) × (1 ≤ o .tries) ⌝ }
-    ensures { λ r. ⌜ r ≡ judgedBy (weighed (take (d - w .q) (keys .at))) o w f ⌝ }
+    requires { ⌜ (length (keys .at) ≡ 6) × (length (keys .more) ≡ 2) × (d ≤ 8) × (1 ≤ o .tries) ⌝ }
+    ensures { λ r. ⌜ r ≡ judgedBy (weighed (take (d - w .q) (keys .at ++ keys .more))) o w f ⌝ }
 {
     let a = weighing::allowance(keys, d, w.q);
     let k = Pick {
@@ -109,7 +110,7 @@ fn try_on(
     tests: &[u64],
     start: Outcome,
 ) -> Outcome
-    requires { ⌜ Ready c (now tables) (now s) (keys .at) p × TestWords (codeOf c) p (now s) (now tests) ⌝ }
+    requires { ⌜ Ready c (now tables) (now s) keys p × TestWords (codeOf c) p (now s) (now tests) ⌝ }
     requires { ⌜ Tried (codeOf c) p (now s) start × (start .sure ≡ false) × (start .tries ≤ length (now tests)) ⌝ }
     ensures { λ r. ⌜ Tried (codeOf c) p (now (s .entry)) r × (r .sure ≡ false → r .tries ≡ length (now (tests .entry))) ⌝ }
 {
@@ -153,7 +154,7 @@ fn search_on(
     base: u64,
     start: Outcome,
 ) -> Outcome
-    requires { ⌜ Ready c (now tables) (now s) (keys .at) p × (base ≡ syndromesOf (codeOf c) (hardBits (now s))) ⌝ }
+    requires { ⌜ Ready c (now tables) (now s) keys p × (base ≡ syndromesOf (codeOf c) (hardBits (now s))) ⌝ }
     requires { ⌜ Tried (codeOf c) p (now s) start × (start .sure ≡ false) × (start .tries ≡ 1) ⌝ }
     ensures { λ r. ⌜ Tried (codeOf c) p (now (s .entry)) r × (r .sure ≡ false → r .tries ≡ 2 ^ p) ⌝ }
 {
@@ -178,7 +179,7 @@ fn search_on(
 
 // All tries, unless one of them ends the search.
 pub fn search(c: Code, tables: &[u32], s: &[u8], keys: Keys, p: usize) -> Outcome
-    requires { ⌜ Ready c (now tables) (now s) (keys .at) p ⌝ }
+    requires { ⌜ Ready c (now tables) (now s) keys p ⌝ }
     ensures { λ r. ⌜ (outcomeOf p (now (s .entry)) r ≡ softStage (codeOf c) p (now (s .entry))) × Sound (c .n) (r .pick) ⌝ }
 {
     let base = hard_stage::syndromes(c, tables, s, 4) as u64;

@@ -20,12 +20,12 @@ ghost use Rattle.receiver.specs.Search.{outcomeOf, writtenFrom, Sound, t
 ghost use Rattle.receiver.specs.Tables.{Filled};
 use crate::Soft;
 use crate::hard_stage;
+use crate::least_keys;
 use crate::locate::Flips;
-use crate::ranking;
-use crate::ranking::Keys;
 use crate::search;
 use crate::search::Outcome;
 use crate::tables;
+use ranking::Keys;
 use refusal::Code;
 
 // The hard bits of the symbols from `from` on.
@@ -42,7 +42,7 @@ fn write_bits(s: &[u8], from: usize, out: &mut [u8])
 
 // Flips the weak positions that test word j flips, in the bits of a word from `from` on.
 fn flip_weak(out: &mut [u8], from: usize, keys: Keys, p: usize, j: usize)
-    requires { ⌜ Bits (now out) × (p ≤ 8) × (length (keys .at) ≡ 8) × Distinct (from + length (now out)) (placesOf (keys .at) p) ⌝ }
+    requires { ⌜ Bits (now out) × (p ≤ 6) × (length (keys .at) ≡ 6) × Distinct (from + length (now out)) (placesOf (keys .at) p) ⌝ }
     ensures { λ _. ⌜ now (out .exit) ≡ flippedFrom from (chosen j (placesOf (keys .at) p)) (now (out .entry)) ⌝ }
 {
     let at = keys.at;
@@ -50,7 +50,7 @@ fn flip_weak(out: &mut [u8], from: usize, keys: Keys, p: usize, j: usize)
     let mut k = 0;
     while k < p {
         if r % 2 == 1 {
-            hard_stage::flip(out, from, ranking::place_of(at[k]));
+            hard_stage::flip(out, from, least_keys::place_of(at[k]));
         }
         r = r / 2;
         k += 1;
@@ -119,7 +119,7 @@ pub fn decode_word(
     ensures { λ r. ⌜ (outcomeOf p (now (s .entry)) r ≡ softStage (codeOf c) p (now (s .entry))) × Sound (c .n) (r .pick) ⌝ }
     ensures { λ _. ⌜ now (out .exit) ≡ writtenFrom from (softStage (codeOf c) p (now (s .entry))) (now (out .entry)) ⌝ }
 {
-    let keys = ranking::keys_of(s, c.distance(), p);
+    let keys = least_keys::keys_of(s, c.distance(), p);
     let o = search::search(c, tables, s, keys, p);
     let found = o.pick.flips.found;
     if !found {

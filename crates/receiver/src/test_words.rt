@@ -7,7 +7,7 @@ ghost use Rattle.chase.proofs.search.Ready.{flippedMore};
 ghost use Rattle.chase.proofs.test_words.Doublings.{Doubled, Small};
 ghost use Rattle.refusal.specs.Named.{codeOf};
 ghost use Rattle.receiver.specs.Tables.{Fielded};
-use crate::ranking;
+use crate::least_keys;
 use crate::tables;
 use refusal::Code;
 
@@ -38,7 +38,7 @@ pub fn double(c: Code, tables: &[u32], key: u16, size: usize, tests: &mut [u64])
     requires { ⌜ (2 * size ≤ length (now tests)) × Small 576460752303423488 size (now tests) ⌝ }
     ensures { λ _. ⌜ Doubled (flippedMore (codeOf c) key) size (now (tests .entry)) (now (tests .exit)) ⌝ }
 {
-    let v = tables::powers_of(c, tables, ranking::place_of(key)) as u64;
+    let v = tables::powers_of(c, tables, least_keys::place_of(key)) as u64;
     let w = flip_of(key);
     let mut i = 0;
     while i < size {

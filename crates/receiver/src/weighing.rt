@@ -1,5 +1,6 @@
 // What a candidate weighs: its flips q, its distance L and its allowance A.
 ghost use mathlib.Core.Path.{_≡_};
+ghost use mathlib.Core.List.{_++_};
 ghost use Prim.Native.Nat.{_-_, _<_, _≤_};
 ghost use lib.ListN.{length, getD, take};
 ghost use Rattle.bch.specs.Words.{isIn, Distinct, flippedAt};
@@ -9,22 +10,21 @@ ghost use Rattle.chase.proofs.test_words.TestWords.{chosen};
 ghost use Rattle.chase.proofs.weighing.Weights.{Weighs, packedWeight};
 ghost use Rattle.chase.proofs.ranking.Allowances.{weighed};
 ghost use Rattle.chase.proofs.search.Ready.{Ready, placesOf};
+use crate::least_keys;
 use crate::locate;
 use crate::locate::Flips;
-use crate::ranking;
-use crate::ranking::Keys;
+use ranking::Keys;
 
 // A: the sum of the d - q smallest reliabilities, added up from the keys for each candidate: they are few.
 pub fn allowance(keys: Keys, d: usize, q: u32) -> u32
-    requires { ⌜ (d ≤ 8) × (length (keys .at) ≡ 8) ⌝ }
-    ensures { λ r. ⌜ r ≡ weighed (take (d - q) (keys .at)) ⌝ }
+    requires { ⌜ (length (keys .at) ≡ 6) × (length (keys .more) ≡ 2) × (d ≤ 8) ⌝ }
+    ensures { λ r. ⌜ r ≡ weighed (take (d - q) (keys .at ++ keys .more)) ⌝ }
 {
-    let at = keys.at;
     let flips = q as usize;
     let mut sum: u32 = 0;
     let mut k = 0;
     while k + flips < d {
-        sum += ranking::held(at[k]);
+        sum += least_keys::held(least_keys::key_at(keys, k));
         k += 1;
     }
     sum
@@ -40,7 +40,7 @@ fn z_at(s: &[u8], x: usize) -> u32
 
 // Whether position x is among those of the first p keys that test word j flips.
 fn chosen_at(keys: Keys, p: usize, j: usize, x: usize) -> bool
-    requires { ⌜ (p ≤ 8) × (length (keys .at) ≡ 8) ⌝ }
+    requires { ⌜ (p ≤ 6) × (length (keys .at) ≡ 6) ⌝ }
     ensures { λ r. ⌜ r ≡ isIn x (chosen j (placesOf (keys .at) p)) ⌝ }
 {
     let at = keys.at;
@@ -48,7 +48,7 @@ fn chosen_at(keys: Keys, p: usize, j: usize, x: usize) -> bool
     let mut k = 0;
     while k < p {
         if r % 2 == 1 {
-            if ranking::place_of(at[k]) == x {
+            if least_keys::place_of(at[k]) == x {
                 return true;
             }
         }
@@ -72,7 +72,7 @@ fn flipped(s: &[u8], keys: Keys, p: usize, j: usize, x: usize, z: u32) -> bool
         return false;
     }
     let at = keys.at;
-    if ranking::held(at[p - 1]) < z {
+    if least_keys::held(at[p - 1]) < z {
         return false;
     }
     chosen_at(keys, p, j, x)

@@ -38,7 +38,7 @@ weighed-mono (suc k) (suc l) [] h = omega arith
 weighed-mono (suc k) (suc l) (x ∷ ks) h = omega (arith, weighed-mono k l ks (omega arith))
 
 -- A, from the keys: q is the number of flips
-pub allowance-keys : (size d q : ℕ) (ss ks c : List ℕ) → Weakest size ss ks → d - q ≤ size → d - q ≤ length ss → q ≡ flips c (hardBits ss)
+pub allowance-keys : (d q : ℕ) (ss ks c : List ℕ) → Weakest d ss ks → d ≤ length ss → q ≡ flips c (hardBits ss)
     → weighed (take (d - q) ks) ≡ allowance d (reliabilities ss) c (hardBits ss)
 unfolding allowance
-allowance-keys size d q ss ks c w h l e = w .sums (d - q) h l ∙ ap (λ (x : ℕ). smallestSum (d - x) (reliabilities ss)) e
+allowance-keys d q ss ks c w h e = w .sums (d - q) (omega arith) (omega arith) ∙ ap (λ (x : ℕ). smallestSum (d - x) (reliabilities ss)) e

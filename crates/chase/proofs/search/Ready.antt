@@ -32,21 +32,19 @@ use Rattle.chase.proofs.test_words.TestSums.{sums-high}
 use Rattle.chase.proofs.weighing.Weights.{Weighs, packedWeight, unpacked, distance-most, distance-same, weigh-out, weigh-back, weight-high}
 use Rattle.chase.proofs.test_words.Doublings.{Doubled, Holds, Small, holds-first, doubled-holds}
 
--- ss are symbols, the first of eight keys ks are their least, and p is a depth: enough for p weak positions
+-- ss are symbols, p is a depth, and the first p of six keys ks are the word's least: its weak positions
 pub record Ready (ss ks : List ℕ) (p : ℕ) : Type 0 where
-  pub size : ℕ
-  pub keys : Weakest size ss ks
-  pub eight : length ks ≡ 8
+  pub keys : Weakest p ss ks
+  pub six : length ks ≡ 6
   pub symbols : Symbols ss
   pub most : length ss ≤ 1023
   pub depth : p ≤ 6
-  pub weak-kept : p ≤ size
-  pub weak-there : p ≤ length ss
+  pub there : p ≤ length ss
 
--- .. and enough for A at the design distance d
-pub record Deep (d : ℕ) (ss ks : List ℕ) (p : ℕ) : Type 0 where
+-- .. and the first d of the keys ls are the least too: enough for A at the design distance d
+pub record Deep (d : ℕ) (ss ks ls : List ℕ) (p : ℕ) : Type 0 where
   pub ready : Ready ss ks p
-  pub kept : d ≤ ready .size
+  pub least : Weakest d ss ls
   pub there : d ≤ length ss
 
 -- a test word in one number: 2^32 times its weight, plus its syndromes
@@ -87,29 +85,29 @@ module _ (ss ks : List ℕ) (p : ℕ) (ready : Ready ss ks p) where
 
   -- the first p keys hold them, ..
   pub places-weak : placesOf ks p ≡ weak p (reliabilities ss)
-  places-weak = ready .keys .positions p (ready .weak-kept) (ready .weak-there)
+  places-weak = ready .keys .positions p (omega arith) (ready .there)
 
   -- .. each once, ..
   pub weak-distinct : Distinct (length ss) (weak p (reliabilities ss))
   weak-distinct = subst (λ (n : ℕ). Distinct n (weak p (reliabilities ss))) (length-reliabilities ss) (Ranking.weak-distinct (reliabilities ss) p)
 
   pub long-weak : length (weak p (reliabilities ss)) ≡ p
-  long-weak = weak-long (ready .size) ss ks (ready .keys) p (ready .weak-kept) (ready .weak-there)
+  long-weak = weak-long p ss ks (ready .keys) (ready .there)
 
   at-weak : (b : ℕ) → b < p → getD (weak p (reliabilities ss)) b 0 ≡ getD ks b 0 % 1024
-  at-weak = weak-at (ready .size) ss ks (ready .keys) p (ready .weak-kept) (ready .weak-there)
+  at-weak = weak-at p ss ks (ready .keys) (ready .there)
 
   -- .. below n, with its reliability
   pub key-below : (b : ℕ) → b < p → getD ks b 0 % 1024 < length ss
-  key-below b h = ready .keys .held b (omega (arith, ready .weak-kept)) (omega (arith, ready .weak-there)) .1
+  key-below b h = ready .keys .held b h (omega (arith, ready .there)) .1
 
   key-held : (b : ℕ) → b < p → getD ks b 0 / 1024 ≡ getD (reliabilities ss) (getD ks b 0 % 1024) 0
-  key-held b h = ready .keys .held b (omega (arith, ready .weak-kept)) (omega (arith, ready .weak-there)) .0
+  key-held b h = ready .keys .held b h (omega (arith, ready .there)) .0
 
   -- a position that is more reliable than the last of them is not flipped
   pub strong-unflipped : 0 < p → (j x : ℕ) → getD ks (p - 1) 0 / 1024 < getD (reliabilities ss) x 0 → isIn x (chosen j (weakest p ss)) ≡ false
   strong-unflipped h j x l =
-      chosen-absent x j (weak p (reliabilities ss)) (not-weak (ready .size) ss ks (ready .keys) p (ready .weak-kept) (ready .weak-there) h x l)
+      chosen-absent x j (weak p (reliabilities ss)) (not-weak p ss ks (ready .keys) (ready .there) h x l)
 
   -- ---- the test words in one number each
 
@@ -247,15 +245,15 @@ module _ (ss ks : List ℕ) (p : ℕ) (ready : Ready ss ks p) where
           (weak p (reliabilities ss)) weak-distinct j P places a long q L old (sym (rw (← same) at h)))
 
 -- the sum of the smallest reliabilities is small
-pub weighed-most : (d : ℕ) (ss ks : List ℕ) (p : ℕ) → Deep d ss ks p → (k : ℕ) → k ≤ d → weighed (take k ks) ≤ 15 * k
+pub weighed-most : (d : ℕ) (ss ls : List ℕ) → Weakest d ss ls → d ≤ length ss → (k : ℕ) → k ≤ d → weighed (take k ls) ≤ 15 * k
 unfolding sum
-weighed-most d ss ks p deep zero h = omega arith
-weighed-most d ss ks p deep (suc k) h =
-    let r = deep .ready .keys .held k (omega (arith, deep .kept)) (omega (arith, deep .there)) .0 in
+weighed-most d ss ls least there zero h = omega arith
+weighed-most d ss ls least there (suc k) h =
+    let r = least .held k h (omega arith) .0 in
     omega (
       arith,
-      rw add-one at (weighed-more k ks (omega (arith, deep .ready .keys .long, deep .kept))),
-      weighed-most d ss ks p deep k (omega arith),
+      rw add-one at (weighed-more k ls (omega (arith, least .long))),
+      weighed-most d ss ls least there k (omega arith),
       r,
-      reliability-lt ss (getD ks k 0 % 1024),
+      reliability-lt ss (getD ls k 0 % 1024),
     )

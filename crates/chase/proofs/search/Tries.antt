@@ -24,8 +24,8 @@ same-candidate : (w : List ℕ) (j : ℕ) {q q′ L L′ A A′ : ℕ} → q ≡
     → _≡_ {A = Candidate} (record { word = w; q = q; L = L; A = A; j = j }) (record { word = w; q = q′; L = L′; A = A′; j = j })
 same-candidate w j e f g = cc
 
-module _ (m t n : ℕ) (lawful : Lawful (code m t n)) (ts : List ℕ) (tables : CodeTables m t ts) (ss ks : List ℕ) (p : ℕ)
-    (deep : Deep (2 * t + 1) ss ks p) (long : length ss ≡ n) (j s : ℕ) (packs : s ≡ syndromesOf (code m t n) (test p ss j)) where
+module _ (m t n : ℕ) (lawful : Lawful (code m t n)) (ts : List ℕ) (tables : CodeTables m t ts) (ss ks ls : List ℕ) (p : ℕ)
+    (deep : Deep (2 * t + 1) ss ks ls p) (long : length ss ≡ n) (j s : ℕ) (packs : s ≡ syndromesOf (code m t n) (test p ss j)) where
   T : List ℕ
   T = test p ss j
 
@@ -59,7 +59,7 @@ module _ (m t n : ℕ) (lawful : Lawful (code m t n)) (ts : List ℕ) (tables : 
       try-distinct = found-distinct (code m t n) lawful ts tables T long-T (bits-tested ss ks p (deep .ready) j) s packs found count ps e z
 
       -- a candidate, weighed
-      pub try-some : (q L A : ℕ) → Weighs (reliabilities ss) (flippedAt (take count ps) (test p ss j)) (hardBits ss) q L → A ≡ weighed (take (2 * t + 1 - q) ks)
+      pub try-some : (q L A : ℕ) → Weighs (reliabilities ss) (flippedAt (take count ps) (test p ss j)) (hardBits ss) q L → A ≡ weighed (take (2 * t + 1 - q) ls)
           → Option·map (candidate (code m t n) p ss j) (tried (code m t n) p ss j)
           ≡ some (record { word = flippedAt (take count ps) (test p ss j); q = q; L = L; A = A; j = j })
       unfolding T tried candidate
@@ -68,5 +68,4 @@ module _ (m t n : ℕ) (lawful : Lawful (code m t n)) (ts : List ℕ) (tables : 
           ap (Option·map (candidate (code m t n) p ss j))
           (found-repaired (code m t n) lawful ts tables T long-T (bits-tested ss ks p (deep .ready) j) s packs found count ps e z)
           ∙ ap some (sym (same-candidate c j (w .count) (w .sum)
-          (a ∙ allowance-keys (deep .ready .size) (2 * t + 1) q ss ks c (deep .ready .keys) (omega (arith, deep .kept))
-          (omega (arith, deep .there)) (w .count))))
+          (a ∙ allowance-keys (2 * t + 1) q ss ls c (deep .least) (deep .there) (w .count))))

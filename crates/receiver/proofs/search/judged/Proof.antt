@@ -3,6 +3,7 @@ use Prim.Native.Nat.{_-_, _≤_, _<_}
 use native.Mathlib.Omega.{arith}
 use mathlib.Core.Path.{_≡_, refl, sym, _∙_}
 use mathlib.Core.Bool.{true, false}
+use mathlib.Core.List.{_++_}
 use borrow.Author.Tests.{le-leb, lt-leb}
 use lib.ListN.{take}
 use Rattle.chase.proofs.ranking.Allowances.{weighed}
@@ -22,8 +23,8 @@ unfolding judgedBy
 returns c =
     let a = c .before .before .before .before .args in
     let e = c .before .before .before .allowance .ensures in
-    let l : a .w .sum ≤ weighed (take (a .d - a .w .q) (a .keys .at)) = omega (arith, c .if1 .taken) in
-    rw (judgedBy, le-leb (a .w .sum) (weighed (take (a .d - a .w .q) (a .keys .at))) l, e) refl
+    let l : a .w .sum ≤ weighed (take (a .d - a .w .q) (a .keys .at ++ a .keys .more)) = omega (arith, c .if1 .taken) in
+    rw (judgedBy, le-leb (a .w .sum) (weighed (take (a .d - a .w .q) (a .keys .at ++ a .keys .more))) l, e) refl
 
 nearer-requires : tie.Need-nearer-requires
 nearer-requires c κs = search needs
@@ -33,18 +34,18 @@ unfolding judgedBy
 returns-2 c =
     let a = c .before .before .before .before .before .before .args in
     let e = c .before .before .before .before .before .allowance .ensures in
-    let l : weighed (take (a .d - a .w .q) (a .keys .at)) < a .w .sum = omega (arith, c .before .before .if1 .left) in
+    let l : weighed (take (a .d - a .w .q) (a .keys .at ++ a .keys .more)) < a .w .sum = omega (arith, c .before .before .if1 .left) in
     let near : nearerPick (a .o .pick) (a .w .sum) ≡ true = sym (c .before .nearer .ensures) ∙ c .if2 .taken in
-    rw (judgedBy, lt-leb (a .w .sum) (weighed (take (a .d - a .w .q) (a .keys .at))) l, near, e) refl
+    rw (judgedBy, lt-leb (a .w .sum) (weighed (take (a .d - a .w .q) (a .keys .at ++ a .keys .more))) l, near, e) refl
 
 returns-3 : tie.Need-returns-3
 unfolding judgedBy
 returns-3 c =
     let a = c .before .before .before .before .before .before .args in
     let e = c .before .before .before .before .before .allowance .ensures in
-    let l : weighed (take (a .d - a .w .q) (a .keys .at)) < a .w .sum = omega (arith, c .before .before .if1 .left) in
+    let l : weighed (take (a .d - a .w .q) (a .keys .at ++ a .keys .more)) < a .w .sum = omega (arith, c .before .before .if1 .left) in
     let far : nearerPick (a .o .pick) (a .w .sum) ≡ false = sym (c .before .nearer .ensures) ∙ c .if2 .left in
-    rw (judgedBy, lt-leb (a .w .sum) (weighed (take (a .d - a .w .q) (a .keys .at))) l, far) refl
+    rw (judgedBy, lt-leb (a .w .sum) (weighed (take (a .d - a .w .q) (a .keys .at ++ a .keys .more))) l, far) refl
 
 pub judged-spec : {M : Type 1} → statement M
 judged-spec =

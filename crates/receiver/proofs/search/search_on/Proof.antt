@@ -35,7 +35,7 @@ record Step (b p to : ℕ) : Type 0 where
   next : b + 1 ≤ p
   next-fits : Fits w64 (b + 1)
   falls : p - (b + 1) < p - b
-  inside : b < 8
+  inside : b < 6
   doubled : 2 * to ≡ 2 ^ (b + 1)
   to-fits : Fits w64 (2 * to)
   to-most : 2 * to ≤ 64

@@ -41,7 +41,7 @@ after c =
     let d = c .before .before .before .before .before .before .before .before .before .before .distance .ensures ∙ s .pre .0 .0 .filled .fielded .made .is-d in
     let w = c .before .weigh in
     let t =
-    turn-judged (a .c) (a .tables .now) (a .s .now) (a .keys .at) (a .p) (a .tests .now) (s .pre .0 .0) (s .pre .0 .1) (l .o) (l .inv .1)
+    turn-judged (a .c) (a .tables .now) (a .s .now) (a .keys) (a .p) (a .tests .now) (s .pre .0 .0) (s .pre .0 .1) (l .o) (l .inv .1)
     (l .inv .0) (n .result .tries) f (n .ensures .0) z (n .ensures .1 .0) (n .ensures .1 .1) (w .result) (w .ensures) in
     let r = rw d at e in
     (rw r t, rw r (judged-tries _ _ _ _), n .ensures .0 .there z .0, n .ensures .0 .most)
@@ -57,7 +57,7 @@ next-requires c κs =
     let s = c .before .before .before .before .before .before .before in
     let a = s .args in
     let syndromes =
-    are-syndromes (a .c) (a .tables .now) (a .s .now) (a .keys .at) (a .p) (a .tests .now) (s .pre .0 .0) (s .pre .0 .1) in
+    are-syndromes (a .c) (a .tables .now) (a .s .now) (a .keys) (a .p) (a .tests .now) (s .pre .0 .0) (s .pre .0 .1) in
     (s .pre .0 .0 .filled, syndromes, c .before .before .loop .inv .2)
 
 returns : tie.Need-returns Inv-loop μ-loop
@@ -67,7 +67,7 @@ returns c =
     let l = c .before .before .before .before .loop in
     let n = c .before .next in
     let t =
-    turn-missed (a .c) (a .tables .now) (a .s .now) (a .keys .at) (a .p) (a .tests .now) (s .pre .0 .0) (s .pre .0 .1) (l .o) (l .inv .1)
+    turn-missed (a .c) (a .tables .now) (a .s .now) (a .keys) (a .p) (a .tests .now) (s .pre .0 .0) (s .pre .0 .1) (l .o) (l .inv .1)
     (l .inv .0) (n .result .tries) (n .result .flips) (n .ensures .0) (not-true _ (c .if2 .taken)) in
     (t .0, λ _. t .1)
 
@@ -97,10 +97,10 @@ weigh-requires c κs =
     let z = not-false _ (c .before .before .before .if2 .left) in
     let e = n .ensures .1 in
     let weight =
-    turn-weight (a .c) (a .tables .now) (a .s .now) (a .keys .at) (a .p) (a .tests .now) (s .pre .0 .0) (s .pre .0 .1) (l .o) (l .inv .1)
+    turn-weight (a .c) (a .tables .now) (a .s .now) (a .keys) (a .p) (a .tests .now) (s .pre .0 .0) (s .pre .0 .1) (l .o) (l .inv .1)
     (l .inv .0) (n .result .tries) (n .result .flips) (n .ensures .0) z (e .0) (e .1) in
     let distinct =
-    turn-distinct (a .c) (a .tables .now) (a .s .now) (a .keys .at) (a .p) (a .tests .now) (s .pre .0 .0) (s .pre .0 .1) (l .o) (l .inv .1)
+    turn-distinct (a .c) (a .tables .now) (a .s .now) (a .keys) (a .p) (a .tests .now) (s .pre .0 .0) (s .pre .0 .1) (l .o) (l .inv .1)
     (l .inv .0) (n .result .tries) (n .result .flips) (n .ensures .0) z (e .0) (e .1) in
     (s .pre .0 .0 .deep .ready, ((e .1, e .0, distinct), c .weight-in .ensures ∙ weight))
 
@@ -116,7 +116,7 @@ judged-requires c κs =
       k .filled .fielded .made .is-d,
       k .filled .fielded .made .lawful .t-most,
     ) in
-    (d, k .deep .ready .eight, omega arith)
+    (k .deep .ready .six, k .two, d, omega arith)
 
 returns-2 : tie.Need-returns-2 Inv-loop μ-loop
 returns-2 c = (after (c .before) .0, λ z. no-bool (sym (c .if3 .taken) ∙ z))

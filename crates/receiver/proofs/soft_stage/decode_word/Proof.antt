@@ -2,6 +2,7 @@
 use Prim.Native.Nat.{ℕ, _≤_}
 use native.Mathlib.Omega.{arith}
 use mathlib.Core.Path.{ap, sym, _∙_, subst}
+use mathlib.Core.List.{_++_}
 use borrow.Author.Tests.{not-true, not-false}
 use lib.ListN.{length}
 use Rattle.chase.specs.Soft.{Answer}
@@ -24,7 +25,6 @@ keys-of-requires c κs =
     let few : length (s .args .s .now) ≤ 1023 = omega (arith, made .size-most, t .n-most, s .pre .2) in (
       s .pre .3,
       few,
-      omega (arith, d),
       omega (arith, d, t .t-most),
       omega (arith, made .deep, c .distance .ensures, s .pre .2),
       s .pre .1,
@@ -36,8 +36,9 @@ search-requires c κs =
     let s = c .before .before .before .before .before in
     let a = s .args in
     let d = c .before .distance .ensures ∙ s .pre .0 .fielded .made .is-d in
-    let deep = subst (λ (n : ℕ). Deep n (a .s .now) (c .keys-of .result .at) (a .p)) d (c .keys-of .ensures) in
-    record { filled = s .pre .0; long = s .pre .2; deep = deep }
+    let k = c .keys-of .result in
+    let deep = subst (λ (n : ℕ). Deep n (a .s .now) (k .at) (k .at ++ k .more) (a .p)) d (c .keys-of .ensures .0) in
+    record { filled = s .pre .0; long = s .pre .2; deep = deep; two = c .keys-of .ensures .1 }
 
 returns : tie.Need-returns
 returns c =
@@ -52,7 +53,7 @@ returns c =
 write-word-requires : tie.Need-write-word-requires
 write-word-requires c κs =
     let s = c .before .before .before .before .before .before .before .before in
-    (c .before .before .before .keys-of .ensures .ready, (s .pre .4 ∙ sym (s .pre .2), rw (s .pre .2) (c .before .before .search .ensures .1 .placed)))
+    (c .before .before .before .keys-of .ensures .0 .ready, (s .pre .4 ∙ sym (s .pre .2), rw (s .pre .2) (c .before .before .search .ensures .1 .placed)))
 
 same-length : tie.Need-same-length
 same-length c = search needs

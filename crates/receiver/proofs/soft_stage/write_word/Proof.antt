@@ -33,11 +33,10 @@ flip-weak-requires c κs =
     let s = c .before .before .before .before .before .before .before in
     let a = s .args in
     let w = c .before .before .before .write-bits in
-    let ready = s .pre .0 in
-    let h : a .p ≤ 8 = omega (arith, ready .depth) in (
+    let ready = s .pre .0 in (
       are-bits (a .s .now) (a .from) _ (w .ensures) (ready .symbols),
-      h,
-      ready .eight,
+      ready .depth,
+      ready .six,
       rw (as-long (a .s .now) (a .from) _ (w .ensures) (omega (arith, s .pre .1 .0)), places-weak (a .s .now) (a .keys .at) (a .p) ready)
           (weak-distinct (a .s .now) (a .keys .at) (a .p) ready),
     )

@@ -1,20 +1,20 @@
 -- What the first k keys hold. Assumes nothing.
-use Prim.Native.Nat.{_-_, _*_, _≤_}
+use Prim.Native.Nat.{ℕ, _+_, _-_, _*_, _/_, _≤_}
 use native.Mathlib.Omega.{arith}
 use mathlib.Core.Path.{_≡_, refl, ap, ap₂, sym, _∙_}
-use lib.ListN.{take}
+use mathlib.Core.List.{_++_}
+use lib.ListN.{take, length-append}
 use Rattle.chase.specs.Soft.{sum}
 use Rattle.chase.proofs.ranking.Allowances.{weighed, weighed-more}
-use Prim.Native.Nat.{ℕ, _+_}
 use borrow.Author.Needs.{needs}
 use Rattle.receiver.proofs.weighing.allowance.Statement.{statement}
 use Rattle.receiver.proofs.weighing.allowance.Tie as tie
 
 abbrev Inv-loop : tie.InvT-loop
-Inv-loop d q at flips sum₀ k₀ sum k = (k ≤ d - flips) × (sum ≤ 64 * k) × (sum ≡ weighed (take k at))
+Inv-loop keys d q flips sum₀ k₀ sum k = (k ≤ d - flips) × (sum ≤ 64 * k) × (sum ≡ weighed (take k (keys .at ++ keys .more)))
 
 abbrev μ-loop : tie.MeasureT-loop
-μ-loop d q at flips sum₀ k₀ sum k = d - k
+μ-loop keys d q flips sum₀ k₀ sum k = d - k
 
 loop-holds : tie.Need-loop-holds Inv-loop μ-loop
 unfolding sum
@@ -23,11 +23,8 @@ loop-holds c = (omega arith, omega arith, refl)
 add-loop : tie.Need-add-loop Inv-loop μ-loop
 add-loop c = search needs
 
-mul-held : tie.Need-mul-held Inv-loop μ-loop
-mul-held c = search needs
-
-array-read-held : tie.Need-array-read-held Inv-loop μ-loop
-array-read-held c = search needs
+key-at-requires : tie.Need-key-at-requires Inv-loop μ-loop
+key-at-requires c κs = search needs
 
 held-requires : tie.Need-held-requires Inv-loop μ-loop
 held-requires c κs = search needs
@@ -44,19 +41,19 @@ loop-less c = search needs
 loop-again : tie.Need-loop-again Inv-loop μ-loop
 loop-again c =
     let s = c .before .before .before .before in
-    let l = c .before .before .loop in
-    let ks = s .args .keys .at in (
+    let l = c .before .before .before .loop in
+    let ks = s .args .keys .at ++ s .args .keys .more in (
       omega arith,
       omega (arith, c .held .ensures .1),
-      ap₂ _+_ (l .inv .2) (c .held .ensures .0) ∙ sym (weighed-more (l .k) ks (omega arith)),
+      ap₂ _+_ (l .inv .2) (c .held .ensures .0 ∙ ap (λ (k : ℕ). k / 1024) (c .before .key-at .ensures)) ∙ sym (weighed-more (l .k) ks (omega (arith, length-append (s .args .keys .at) (s .args .keys .more)))),
     )
 
 returns : tie.Need-returns Inv-loop μ-loop
 returns c =
-    let s = c .before .before .before in
+    let s = c .before .before in
     let l = c .before .loop in
     let e : l .k ≡ s .args .d - s .args .q = omega arith in
-    l .inv .2 ∙ ap (λ (k : ℕ). weighed (take k (s .args .keys .at))) e
+    l .inv .2 ∙ ap (λ (k : ℕ). weighed (take k (s .args .keys .at ++ s .args .keys .more))) e
 
 pub allowance-spec : {M : Type 1} → statement M
 allowance-spec =
@@ -66,8 +63,7 @@ allowance-spec =
     μ-loop
     loop-holds
     add-loop
-    mul-held
-    array-read-held
+    key-at-requires
     held-requires
     add-sum
     add-k

@@ -37,7 +37,7 @@ mul-held : tie.Need-mul-held
 mul-held c = search needs
 
 array-read-held : tie.Need-array-read-held
-array-read-held c = let s = c .before .before .before .before in omega (arith, s .pre .0 .eight, s .pre .0 .depth)
+array-read-held c = let s = c .before .before .before .before in omega (arith, s .pre .0 .six, s .pre .0 .depth)
 
 held-requires : tie.Need-held-requires
 held-requires c κs = search needs
@@ -53,8 +53,7 @@ returns-3 c =
 chosen-at-requires : tie.Need-chosen-at-requires
 chosen-at-requires c κs =
     let s = c .before .before .before .before .before .before in
-    let h : s .args .p ≤ 8 = omega (arith, s .pre .0 .depth) in
-    (h, s .pre .0 .eight)
+    (s .pre .0 .depth, s .pre .0 .six)
 
 returns-4 : tie.Need-returns-4
 returns-4 c =

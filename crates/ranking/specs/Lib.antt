@@ -1,0 +1,2 @@
+pub mod Weakest
+pub mod Parts
