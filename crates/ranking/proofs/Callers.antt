@@ -10,7 +10,7 @@ use Rattle.chase.specs.Word.{Symbols}
 use Rattle.chase.proofs.ranking.Keys.{Weakest, ranked-weakest, fewer-weakest, take-replicate}
 use Rattle.chase.proofs.search.Ready.{Deep}
 use Rattle.ranking.specs.Weakest.{keyOf, rankedKeys, padded, weakestKeys}
-use Rattle.ranking.proofs.Ways.{length-padded}
+use Rattle.ranking.proofs.Cursors.{length-padded}
 
 -- eight places
 length-weakest : (count : ℕ) (ss : List ℕ) → length (weakestKeys count ss) ≡ 8

@@ -1,5 +1,5 @@
 pub mod Marking
-pub mod Ways
 pub mod Steps
+pub mod Cursors
 pub mod Orders
 pub mod Callers

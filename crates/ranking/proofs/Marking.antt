@@ -4,16 +4,16 @@ use native.Mathlib.Omega.{arith}
 use native.Mathlib.Decide.{decLe}
 use native.Mathlib.Numerals.{add-one}
 use native.Mathlib.Nat.{pow-succ', div-div-eq-div-mul, div-one, zero-div}
-use mathlib.Core.Path.{_≡_, refl, ap, sym, _∙_}
+use mathlib.Core.Path.{_≡_, refl, ap, ap₂, sym, _∙_}
 use mathlib.Core.Bool.{Bool, true, false, cond, _||_}
 use mathlib.Core.List.{List, [], _∷_, _++_, append-nil}
 use borrow.Author.Tests.{eq-eqb, ne-eqb}
 use lib.Dec.{eqb}
 use lib.Pow.{pow-mono}
 use lib.Count.{trailingZeros, under}
-use lib.ListN.{length, length-drop, take-append-drop, getD, drop, take, length-map}
+use lib.ListN.{length, length-drop, length-take, take-append-drop, getD, drop, take, length-map}
 use lib.Seq.{drop-nil, drop-length, drop-drop, take-all, length-take-le}
-use Rattle.ranking.specs.Parts.{marks, anyOf, bitsOf, marked, bitKeys}
+use Rattle.ranking.specs.Levels.{marks, anyOf, bitsOf, marked, bitKeys, levelFrom}
 
 -- ---- marks
 
@@ -70,7 +70,14 @@ none-marked k [] e = refl
 none-marked k (true ∷ bs) e = absurd (let q : _≡_ {A = ℕ} 0 1 = cc in omega arith)
 none-marked k (false ∷ bs) e = none-marked (suc k) bs e
 
--- where there is none, no key is marked from anywhere on
+-- where there is none, no bit is set, ..
+pub bits-unmarked : (bs : List Bool) → anyOf bs ≡ false → bitsOf bs ≡ 0
+unfolding anyOf bitsOf
+bits-unmarked [] e = refl
+bits-unmarked (true ∷ bs) e = absurd (let q : _≡_ {A = ℕ} 0 1 = cc in omega arith)
+bits-unmarked (false ∷ bs) e = omega (arith, bits-unmarked bs e)
+
+-- .. and no key is marked from anywhere on
 pub any-none : (k j : ℕ) (bs : List Bool) → anyOf bs ≡ false → marked k (drop j bs) ≡ []
 any-none k j bs e = none-marked k (drop j bs) (any-later j bs e)
 
@@ -185,12 +192,6 @@ lowest (suc n) (suc d) x k h l w = go (x % 2) refl (λ e. lowest n d (x / 2) (su
           small = rw (f, q) half;
         }
 
--- the keys of the bits of at most sixteen symbols, but for the first j
-pub keys-from : (z j k : ℕ) (ss : List ℕ) → length ss ≤ 16 → bitKeys 16 (bitsOf (marks z ss) / 2 ^ j) k ≡ marked k (drop j (marks z ss))
-keys-from z j k ss h =
-    ap (λ (x : ℕ). bitKeys 16 x k) (bits-drop j (marks z ss))
-    ∙ keys-marked 16 k (drop j (marks z ss)) (omega (arith, length-drop j (marks z ss), length-marks z ss))
-
 -- ---- sixteen after sixteen
 
 drop-past : (i : ℕ) (bs : List Bool) → length bs ≤ i → drop i bs ≡ []
@@ -213,31 +214,41 @@ marked-append k (false ∷ xs) ys =
     let e : suc k + length xs ≡ k + suc (length xs) = omega arith in
     marked-append (suc k) xs ys ∙ ap (λ (j : ℕ). marked (suc k) xs ++ marked j ys) e
 
--- the marks of sixteen symbols, and those that follow
-sixteen-whole : (k i : ℕ) (bs : List Bool) → i + 16 ≤ length bs
-    → marked k (drop i bs) ≡ marked k (take 16 (drop i bs)) ++ marked (k + 16) (drop (i + 16) bs)
-sixteen-whole k i bs h =
-    let n : length (take 16 (drop i bs)) ≡ 16 = length-take-le 16 (drop i bs) (omega (arith, length-drop i bs)) in
-    ap (marked k) (sym (take-append-drop 16 (drop i bs))) ∙ marked-append k (take 16 (drop i bs)) (drop 16 (drop i bs))
-    ∙ ap (λ (j : ℕ). marked k (take 16 (drop i bs)) ++ marked (k + j) (drop 16 (drop i bs))) n
-    ∙ ap (λ (l : List Bool). marked k (take 16 (drop i bs)) ++ marked (k + 16) l) (drop-drop 16 i bs)
-
-sixteen-last : (k i at : ℕ) (bs : List Bool) → at + 16 ≡ length bs → at ≤ i
-    → marked k (drop i bs) ≡ marked k (drop (i - at) (take 16 (drop at bs))) ++ marked (k + 16) (drop (i + 16) bs)
+-- the keys from i on are those of the sixteen bits there, and those behind them
+pub level-sixteen : (z i : ℕ) (ss : List ℕ)
+    → levelFrom z i ss ≡ bitKeys 16 (bitsOf (take 16 (drop i (marks z ss)))) (z * 1024 + i) ++ levelFrom z (i + 16) ss
 unfolding marked
-sixteen-last k i at bs h l =
-    let e : at + (i - at) ≡ i = omega arith in
-    rw (take-all 16 (drop at bs) (omega (arith, length-drop at bs)), drop-drop (i - at) at bs, e, drop-past (i + 16) bs (omega arith), append-nil)
-
-pub sixteen-next : (z i at k : ℕ) (ss : List ℕ) → 16 ≤ length ss → at ≡ min i (length ss - 16)
-    → marked k (drop i (marks z ss))
-    ≡ marked k (drop (i - at) (marks z (take (at + 16 - at) (drop at ss)))) ++ marked (k + 16) (drop (i + 16) (marks z ss))
-sixteen-next z i at k ss h e =
-    let w : at + 16 - at ≡ 16 = omega arith in
-    rw (w, marks-take z 16 (drop at ss), marks-drop z at ss)
-    (elim (decLe i (length ss - 16)) [
-      | yes u ↦ (let f : at ≡ i = omega arith in
-          let g : i - i ≡ 0 = omega arith in
-          rw (f, g) (sixteen-whole k i (marks z ss) (omega (arith, length-marks z ss))))
-      | no u ↦ sixteen-last k i at (marks z ss) (omega (arith, length-marks z ss)) (omega arith)
+level-sixteen z i ss =
+    let bs = drop i (marks z ss) in
+    let k = z * 1024 + i in
+    let e : k + 16 ≡ z * 1024 + (i + 16) = omega arith in
+    let few : length (take 16 bs) ≤ 16 = omega (arith, length-take 16 bs) in
+    ap (marked k) (sym (take-append-drop 16 bs)) ∙ marked-append k (take 16 bs) (drop 16 bs)
+    ∙ ap₂ (λ (xs ys : List ℕ). xs ++ ys) (sym (keys-marked 16 k (take 16 bs) few))
+    (ap (marked (k + length (take 16 bs))) (drop-drop 16 i (marks z ss)) ∙ elim (decLe 16 (length bs)) [
+      | yes h ↦ ap (λ (n : ℕ). marked (k + n) (drop (i + 16) (marks z ss))) (length-take-le 16 bs h)
+          ∙ ap (λ (n : ℕ). marked n (drop (i + 16) (marks z ss))) e
+      | no h ↦ (let none : drop (i + 16) (marks z ss) ≡ [] = drop-past (i + 16) (marks z ss) (omega (arith, length-drop i (marks z ss))) in rw none)
     ])
+
+-- the sixteen bits from i on, where fewer symbols are read, ..
+pub sixteen-few : (z i : ℕ) (ss : List ℕ) → length ss < 16 → bitsOf (marks z ss) / 2 ^ i ≡ bitsOf (take 16 (drop i (marks z ss)))
+sixteen-few z i ss h =
+    bits-drop i (marks z ss) ∙ ap bitsOf (sym (take-all 16 (drop i (marks z ss)) (omega (arith, length-drop i (marks z ss), length-marks z ss))))
+
+-- .. and where sixteen are, the last of which end with the word
+pub sixteen-last : (z i at : ℕ) (ss : List ℕ) → 16 ≤ length ss → at ≡ min i (length ss - 16)
+    → bitsOf (marks z (take (at + 16 - at) (drop at ss))) / 2 ^ (i - at) ≡ bitsOf (take 16 (drop i (marks z ss)))
+sixteen-last z i at ss h e =
+    let w : at + 16 - at ≡ 16 = omega arith in
+    rw (w, bits-drop (i - at), marks-take z 16 (drop at ss), marks-drop z at ss)
+    (ap bitsOf (elim (decLe i (length ss - 16)) [
+      | yes u ↦ (let f : at ≡ i = omega arith in let g : i - i ≡ 0 = omega arith in rw (f, g))
+      | no u ↦ (let g : at + (i - at) ≡ i = omega arith in
+          rw (take-all 16 (drop at (marks z ss)) (omega (arith, length-drop at (marks z ss), length-marks z ss)), drop-drop (i - at) at (marks z ss), g)
+          (sym (take-all 16 (drop i (marks z ss)) (omega (arith, length-drop i (marks z ss), length-marks z ss)))))
+    ]))
+
+-- they are small
+pub sixteen-small : (z i : ℕ) (ss : List ℕ) → bitsOf (take 16 (drop i (marks z ss))) < 65536
+sixteen-small z i ss = bits-small (take 16 (drop i (marks z ss))) (omega (arith, length-take 16 (drop i (marks z ss))))

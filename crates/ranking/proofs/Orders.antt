@@ -13,9 +13,7 @@ use Rattle.chase.specs.Soft.{Ranked, reliabilities}
 use Rattle.chase.proofs.ranking.Keys.{reliability-lt}
 use Rattle.chase.proofs.ranking.Levels.{atLevel, levels, rank-levels}
 use Rattle.ranking.specs.Weakest.{keyOf, rankedKeys, padded, weakestKeys}
-use Rattle.ranking.specs.Parts.{marks, marked, levelKeys, Onward}
-use Rattle.ranking.specs.declared.Found.{Found}
-use Rattle.ranking.proofs.Ways.{arrived}
+use Rattle.ranking.specs.Levels.{marks, marked, levelKeys}
 
 map-append : (f : Ranked → ℕ) (xs ys : List Ranked) → map f (xs ++ ys) ≡ map f xs ++ map f ys
 map-append f [] ys = refl
@@ -41,31 +39,28 @@ levels-keys : (left k : ℕ) (ss : List ℕ) → map keyOf (levels left k 0 (rel
 unfolding levels levelKeys
 levels-keys zero k ss = refl
 levels-keys (suc left) k ss =
-    let e : k * 1024 + 0 ≡ k * 1024 = omega arith in
     map-append keyOf (atLevel k 0 (reliabilities ss)) (levels left (suc k) 0 (reliabilities ss))
-    ∙ ap₂ (λ (xs ys : List ℕ). xs ++ ys) (level-keys k 0 ss ∙ ap (λ (x : ℕ). marked x (marks k ss)) e) (levels-keys left (suc k) ss)
+    ∙ ap₂ (λ (xs ys : List ℕ). xs ++ ys) (level-keys k 0 ss) (levels-keys left (suc k) ss)
 
 -- the keys in the weakest order
 pub ranked-levels : (ss : List ℕ) → levelKeys 16 0 ss ≡ rankedKeys ss
 unfolding rankedKeys
 ranked-levels ss = sym (ap (map keyOf) (rank-levels 16 0 (reliabilities ss) (λ i h. reliability-lt ss i)) ∙ levels-keys 16 0 ss)
 
--- what is found where nothing was, in the first 1024 symbols
-pub all-found : (count size n : ℕ) (f g : Found) (ss : List ℕ) → size ≡ min count 8 → n ≡ min (length ss) 1024 → f .count ≡ 0 → f .at ++ f .more ≡ padded []
-    → Onward size f g (levelKeys 16 0 (take n ss)) []
-    → (g .at ≡ take 6 (weakestKeys count ss)) × (g .more ≡ drop 6 (weakestKeys count ss))
-unfolding weakestKeys
-all-found count size n f g ss s m c e o =
-    let same : take n ss ≡ take 1024 ss = first n ss m in
-    let all : g .at ++ g .more ≡ padded (take (min count 8) (rankedKeys (take 1024 ss)))
-    = arrived size f g (levelKeys 16 0 (take n ss)) c e o
-    ∙ ap₂ (λ (j : ℕ) (l : List ℕ). padded (take j l)) s (ranked-levels (take n ss) ∙ ap rankedKeys same) in (
-      sym (take-at (g .at) (g .more) 6 (o .sound .six)) ∙ ap (take 6) all,
-      sym (drop-at (g .at) (g .more) 6 (o .sound .six)) ∙ ap (drop 6) all,
-    )
-  where
-    first : (n : ℕ) (ss : List ℕ) → n ≡ min (length ss) 1024 → take n ss ≡ take 1024 ss
-    first n ss m = elim (decLe (length ss) 1024) [
+-- the first 1024 symbols
+pub first-symbols : (n : ℕ) (ss : List ℕ) → n ≡ min (length ss) 1024 → take n ss ≡ take 1024 ss
+first-symbols n ss m =
+    elim (decLe (length ss) 1024) [
       | yes h ↦ take-all n ss (omega arith) ∙ sym (take-all 1024 ss h)
       | no h ↦ (let e : n ≡ 1024 = omega arith in rw e)
     ]
+
+-- the two arrays that hold the first keys by levels
+pub first-weakest : (count size n : ℕ) (ss at more : List ℕ) → size ≡ min count 8 → n ≡ min (length ss) 1024 → length at ≡ 6
+    → at ++ more ≡ padded (take size (levelKeys 16 0 (take n ss)))
+    → (at ≡ take 6 (weakestKeys count ss)) × (more ≡ drop 6 (weakestKeys count ss))
+unfolding weakestKeys
+first-weakest count size n ss at more s m six e =
+    let all : at ++ more ≡ padded (take (min count 8) (rankedKeys (take 1024 ss)))
+    = e ∙ ap₂ (λ (j : ℕ) (l : List ℕ). padded (take j l)) s (ranked-levels (take n ss) ∙ ap rankedKeys (first-symbols n ss m)) in
+    (sym (take-at at more 6 six) ∙ ap (take 6) all, sym (drop-at at more 6 six) ∙ ap (drop 6) all)

@@ -2,12 +2,12 @@
 use Prim.Native.Nat.{ℕ, zero, suc, _+_, _-_, _*_, _%_, _≤_, _<_, min}
 use native.Mathlib.Omega.{arith}
 use native.Mathlib.Decide.{decLt}
-use mathlib.Core.Path.{_≡_, refl, ap, _∙_}
+use mathlib.Core.Path.{_≡_, refl, ap, sym, _∙_}
 use mathlib.Core.Bool.{false}
 use mathlib.Core.List.{List, [], _∷_, _++_}
 use borrow.Author.Tests.{ne-eqb}
 use lib.ListN.{length, getD}
-use Rattle.ranking.specs.Parts.{marks, anyOf, marked, levelKeys, Next}
+use Rattle.ranking.specs.Levels.{marks, anyOf, marked, levelFrom, levelKeys, Next}
 use Rattle.ranking.proofs.Marking.{any-none}
 
 -- ---- the next level
@@ -41,8 +41,9 @@ unfolding anyOf marks
 unmarked y [] h = refl
 unmarked y (s ∷ ss) h = rw (ne-eqb (s % 16) y (h 0 (omega arith))) (unmarked y ss (λ i l. h (suc i) (omega arith)))
 
-level-none : (y : ℕ) (ss : List ℕ) → ((i : ℕ) → i < length ss → getD ss i 0 % 16 ≡ y → ⊥) → marked (y * 1024) (marks y ss) ≡ []
-level-none y ss h = any-none (y * 1024) 0 (marks y ss) (unmarked y ss h)
+-- a level without a symbol has no keys
+level-none : (y i : ℕ) (ss : List ℕ) → ((j : ℕ) → j < length ss → getD ss j 0 % 16 ≡ y → ⊥) → levelFrom y i ss ≡ []
+level-none y i ss h = any-none (y * 1024 + i) i (marks y ss) (unmarked y ss h)
 
 -- `gap` levels without a symbol
 levels-gap : (gap left z : ℕ) (ss : List ℕ) → ((y i : ℕ) → z ≤ y → y < z + gap → i < length ss → getD ss i 0 % 16 ≡ y → ⊥)
@@ -55,16 +56,23 @@ levels-gap zero left z ss h =
 levels-gap (suc gap) left z ss h =
     let e : suc gap + left ≡ suc (gap + left) = omega arith in
     let f : z + suc gap ≡ suc z + gap = omega arith in
-    rw (e, f, level-none z ss (λ i l. h z i (omega arith) (omega arith) l))
+    rw (e, f, level-none z 0 ss (λ i l. h z i (omega arith) (omega arith) l))
     (levels-gap gap left (suc z) ss (λ y i l w. h y i (omega arith) (omega arith)))
 
--- a level, and those from the next on
-pub levels-next : (z y : ℕ) (ss : List ℕ) → z < 16 → Next z y ss
-    → levelKeys (16 - z) z ss ≡ marked (z * 1024) (marks z ss) ++ levelKeys (16 - y) y ss
+-- above the last level there is none
+pub levels-over : (i : ℕ) (ss : List ℕ) → levelFrom 16 i ss ++ levelKeys (15 - 16) 17 ss ≡ []
+unfolding levelKeys
+levels-over i ss = rw (level-none 16 i ss (λ j l e. omega arith))
+
+-- the levels above z are those from the next on
+pub levels-next : (z y : ℕ) (ss : List ℕ) → z < 16 → Next z y ss → levelKeys (15 - z) (suc z) ss ≡ levelFrom y 0 ss ++ levelKeys (15 - y) (suc y) ss
 unfolding levelKeys
 levels-next z y ss h n =
-    let e : 16 - z ≡ suc ((y - suc z) + (16 - y)) = omega (arith, n .above, n .most) in
+    let e : 15 - z ≡ (y - suc z) + (16 - y) = omega (arith, n .above, n .most) in
     let f : suc z + (y - suc z) ≡ y = omega (arith, n .above) in
-    rw e (ap (λ (l : List ℕ). marked (z * 1024) (marks z ss) ++ l)
-    (levels-gap (y - suc z) (16 - y) (suc z) ss (λ x i l w u q. omega (arith, n .above, n .none i u (omega arith)))
-    ∙ ap (λ (x : ℕ). levelKeys (16 - y) x ss) f))
+    rw e (levels-gap (y - suc z) (16 - y) (suc z) ss (λ x i l w u q. omega (arith, n .above, n .none i u (omega arith)))
+    ∙ ap (λ (x : ℕ). levelKeys (16 - y) x ss) f
+    ∙ elim (decLt y 16) [
+      | yes l ↦ (let g : 16 - y ≡ suc (15 - y) = omega arith in rw g)
+      | no l ↦ (let g : y ≡ 16 = omega (arith, n .most) in rw g (sym (levels-over 0 ss)))
+    ])

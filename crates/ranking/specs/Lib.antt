@@ -1,2 +1,2 @@
 pub mod Weakest
-pub mod Parts
+pub mod Levels

@@ -4,7 +4,7 @@ use mathlib.Core.Path.{_≡_, refl, sym, _∙_}
 use native.Mathlib.Omega.{arith}
 use mathlib.Core.Bool.{true, cond}
 use lib.ListN.{drop}
-use Rattle.ranking.specs.Parts.{marks, anyOf}
+use Rattle.ranking.specs.Levels.{marks, anyOf}
 use Rattle.ranking.proofs.Marking.{any-more, any-end}
 use borrow.Author.Needs.{needs}
 use Rattle.ranking.proofs.any.Statement.{statement}

@@ -1,48 +1,81 @@
--- Where there is a mark, the bits are those of the marks but for the first `skip`; where there is none, no key is left to put. Assumes nothing.
-use Prim.Native.Nat.{_-_}
-use mathlib.Core.Path.{sym, _∙_}
+-- The bits of the symbols that are read, but for those before i. Assumes nothing.
+use Prim.Native.Nat.{ℕ, _-_, _/_, _^_}
 use native.Mathlib.Omega.{arith}
-use Rattle.ranking.specs.Parts.{marks}
-use Rattle.ranking.proofs.Marking.{bits-from, bits-drop, any-none, keys-from}
-use Rattle.ranking.proofs.Ways.{stays}
+use mathlib.Core.Path.{_≡_, ap, _∙_}
 use borrow.Author.Needs.{needs}
+use lib.ListN.{take, drop}
+use Rattle.ranking.specs.Levels.{marks, bitsOf}
+use Rattle.ranking.proofs.Marking.{sixteen-few, sixteen-last, sixteen-small}
 use Rattle.ranking.proofs.sixteen.Statement.{statement}
 use Rattle.ranking.proofs.sixteen.Tie as tie
-
-any-requires : tie.Need-any-requires
-any-requires c κs = search needs
 
 which-requires : tie.Need-which-requires
 which-requires c κs = search needs
 
-cast-gather : tie.Need-cast-gather
-cast-gather c = search needs
+cast-result : tie.Need-cast-result
+cast-result c = search needs
 
-shr-gather : tie.Need-shr-gather
-shr-gather c = search needs
-
-gather-requires : tie.Need-gather-requires
-gather-requires c κs =
-    let s = c .before .before .before .before in
-    let a = s .args in (
-      rw (c .which .ensures .0, bits-drop (a .skip)) (bits-from (a .z) (a .skip) (a .s .now) (omega (arith, s .pre .0))),
-      s .pre .2,
-      s .pre .3,
-    )
+shr-result : tie.Need-shr-result
+shr-result c = search needs
 
 returns : tie.Need-returns
 returns c =
-    let s = c .before .before .before .before .before in
-    let a = s .args in
-    rw (c .before .which .ensures .0, keys-from (a .z) (a .skip) (a .base) (a .s .now) (omega (arith, s .pre .0))) at (c .gather .ensures)
+    let a = c .before .before .before .args in
+    let e : c .which .result / 2 ^ a .i ≡ bitsOf (take 16 (drop (a .i) (marks (a .z) (a .s .now))))
+    = ap (λ (x : ℕ). x / 2 ^ a .i) (c .which .ensures .0) ∙ sixteen-few (a .z) (a .i) (a .s .now) (c .before .if1 .taken) in
+    (e, omega (arith, e, sixteen-small (a .z) (a .i) (a .s .now)))
+
+least-requires : tie.Need-least-requires
+least-requires c κs = search needs
+
+add-which-if-any : tie.Need-add-which-if-any
+add-which-if-any c = search needs
+
+sub-which-if-any : tie.Need-sub-which-if-any
+sub-which-if-any c = search needs
+
+part-which-if-any-start : tie.Need-part-which-if-any-start
+part-which-if-any-start c = search needs
+
+part-which-if-any-end : tie.Need-part-which-if-any-end
+part-which-if-any-end c = search needs
+
+which-if-any-requires : tie.Need-which-if-any-requires
+which-if-any-requires c κs = search needs
+
+sub-result : tie.Need-sub-result
+sub-result c = search needs
+
+cast-result-2 : tie.Need-cast-result-2
+cast-result-2 c = search needs
+
+shr-result-2 : tie.Need-shr-result-2
+shr-result-2 c = search needs
 
 returns-2 : tie.Need-returns-2
 returns-2 c =
-    let s = c .before .before .before in
-    let a = s .args in
-    rw (any-none (a .base) (a .skip) (marks (a .z) (a .s .now)) (sym (c .before .any .ensures) ∙ c .if1 .left)) (stays (a .size) (a .f) (s .pre .3) _)
+    let a = c .before .before .before .before .before .args in
+    let at = c .before .before .least in
+    let e : c .which-if-any .result / 2 ^ (a .i - at .result) ≡ bitsOf (take 16 (drop (a .i) (marks (a .z) (a .s .now))))
+    = ap (λ (x : ℕ). x / 2 ^ (a .i - at .result)) (c .which-if-any .ensures)
+    ∙ sixteen-last (a .z) (a .i) (at .result) (a .s .now) (omega (arith, c .before .before .before .if1 .left)) (at .ensures) in
+    (e, omega (arith, e, sixteen-small (a .z) (a .i) (a .s .now)))
 
 pub sixteen-spec : {M : Type 1} → statement M
 sixteen-spec =
     tie.close
-    (tie.spec any-requires which-requires cast-gather shr-gather gather-requires returns returns-2)
+    (tie.spec
+    which-requires
+    cast-result
+    shr-result
+    returns
+    least-requires
+    add-which-if-any
+    sub-which-if-any
+    part-which-if-any-start
+    part-which-if-any-end
+    which-if-any-requires
+    sub-result
+    cast-result-2
+    shr-result-2
+    returns-2)

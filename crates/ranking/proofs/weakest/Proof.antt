@@ -1,11 +1,10 @@
--- The keys by levels are the keys in the weakest order, of which the first are found. Assumes nothing.
-use Prim.Native.Nat.{_-_, min}
-use mathlib.Core.Path.{_≡_, refl}
+-- The keys by levels are the keys in the weakest order. Assumes nothing.
+use Prim.Native.Nat.{_≤_, min}
 use native.Mathlib.Omega.{arith}
-use lib.ListN.{length, length-take}
-use Rattle.ranking.specs.Weakest.{padded}
-use Rattle.ranking.proofs.Orders.{all-found}
+use mathlib.Core.Path.{_≡_}
 use borrow.Author.Needs.{needs}
+use lib.ListN.{length, length-take}
+use Rattle.ranking.proofs.Orders.{first-weakest}
 use Rattle.ranking.proofs.weakest.Statement.{statement}
 use Rattle.ranking.proofs.weakest.Tie as tie
 
@@ -15,29 +14,30 @@ least-requires c κs = search needs
 least-requires-2 : tie.Need-least-requires-2
 least-requires-2 c κs = search needs
 
-slice-aggregate-ranked : tie.Need-slice-aggregate-ranked
-slice-aggregate-ranked c =
+slice-aggregate-first-keys : tie.Need-slice-aggregate-first-keys
+slice-aggregate-first-keys c =
     let ss = c .before .before .before .before .args .symbols .now in
-    let e : c .before .least2 .result ≡ min (length ss) 1024 = c .before .least2 .ensures in
-    omega (arith, length-take (c .before .least2 .result) ss)
+    let n = c .before .least2 in
+    let e : n .result ≡ min (length ss) 1024 = n .ensures in
+    omega (arith, length-take (n .result) ss)
 
-ranked-requires : tie.Need-ranked-requires
-ranked-requires c κs =
+first-keys-requires : tie.Need-first-keys-requires
+first-keys-requires c κs =
     let s = c .before .before .before .before in
     let ss = s .args .symbols .now in
-    let e : c .before .least2 .result ≡ min (length ss) 1024 = c .before .least2 .ensures in
-    let z : c .before .before .least .result ≡ min (s .args .count) 8 = c .before .before .least .ensures in
-    (omega (arith, length-take (c .before .least2 .result) ss), record { few = omega arith; most = omega arith; six = refl; two = refl })
+    let n = c .before .least2 in
+    let e : n .result ≡ min (length ss) 1024 = n .ensures in
+    let f : c .before .before .least .result ≡ min (s .args .count) 8 = c .before .before .least .ensures in
+    (omega (arith, length-take (n .result) ss), omega arith)
 
 returns : tie.Need-returns
-unfolding padded
 returns c =
-    let s = c .before .before .before .before .before .before .before in
-    all-found (s .args .count) (c .before .before .before .before .before .least .result) (c .before .before .before .before .least2 .result) _
-    (c .before .before .ranked .result) (s .args .symbols .now) (c .before .before .before .before .before .least .ensures)
-    (c .before .before .before .before .least2 .ensures) refl refl (c .before .before .ranked .ensures)
+    let s = c .before .before .before .before .before in
+    let size = c .before .before .before .least in
+    let n = c .before .before .least2 in
+    let k = c .first-keys in
+    first-weakest (s .args .count) (size .result) (n .result) (s .args .symbols .now) (k .result .at) (k .result .more) (size .ensures) (n .ensures)
+    (k .ensures .1) (k .ensures .0)
 
 pub weakest-spec : {M : Type 1} → statement M
-weakest-spec =
-    tie.close
-    (tie.spec least-requires least-requires-2 slice-aggregate-ranked ranked-requires returns)
+weakest-spec = tie.close (tie.spec least-requires least-requires-2 slice-aggregate-first-keys first-keys-requires returns)

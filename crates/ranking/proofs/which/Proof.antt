@@ -3,7 +3,7 @@ use Prim.Native.Nat.{ℕ, _+_, _-_, _*_, _≤_, _<_}
 use mathlib.Core.Path.{_≡_, refl, ap, _∙_}
 use native.Mathlib.Omega.{arith}
 use lib.ListN.{drop, length}
-use Rattle.ranking.specs.Parts.{marks, bitsOf}
+use Rattle.ranking.specs.Levels.{marks, bitsOf}
 use Rattle.ranking.proofs.Marking.{bits-from, bits-before, bits-none}
 use borrow.Author.Needs.{needs}
 use Rattle.ranking.proofs.which.Statement.{statement}
