@@ -6,7 +6,8 @@ use mathlib.Core.Path.{_≡_, refl, ap, sym, _∙_}
 use mathlib.Core.Bool.{false}
 use mathlib.Core.List.{List, [], _∷_, _++_}
 use borrow.Author.Tests.{ne-eqb}
-use lib.ListN.{length, getD}
+use lib.ListN.{length, getD, take, drop, length-drop}
+use lib.Seq.{getD-take, getD-drop, length-take-le}
 use Rattle.ranking.specs.Levels.{marks, anyOf, marked, levelFrom, levelKeys, Next}
 use Rattle.ranking.proofs.Marking.{any-none}
 
@@ -32,6 +33,28 @@ nearest-more z y i x r ss n e m =
   where
     last : (j : ℕ) → j ≡ i → z < getD ss j 0 % 16 → r ≤ getD ss j 0 % 16
     last j q h = rw q (omega (arith, e .0 (rw q at h)))
+
+-- of two parts that leave out no symbol of the word, the lower
+pub next-parts : (z y x r a b w : ℕ) (ss : List ℕ) → Next z y (take a ss) → Next z x (take w (drop b ss)) → r ≡ min y x
+    → a ≤ length ss → b ≤ a → b + w ≡ length ss → Next z r ss
+next-parts z y x r a b w ss n o m h l e =
+    record {
+      above = omega (arith, n .above, o .above);
+      most = omega (arith, n .most);
+      none = λ i u v. elim (decLt i a) [ yes f ↦ omega (arith, first i f v) | no f ↦ omega (arith, second i (omega arith) u v) ];
+    }
+  where
+    first : (i : ℕ) → i < a → z < getD ss i 0 % 16 → y ≤ getD ss i 0 % 16
+    first i f v =
+        let q = getD-take a ss i 0 f in
+        rw q at (n .none i (omega (arith, length-take-le a ss h)) (rw q v))
+
+    second : (i : ℕ) → b ≤ i → i < length ss → z < getD ss i 0 % 16 → x ≤ getD ss i 0 % 16
+    second i f u v =
+        let k : b + (i - b) ≡ i = omega arith in
+        let q : getD (take w (drop b ss)) (i - b) 0 ≡ getD ss i 0
+        = getD-take w (drop b ss) (i - b) 0 (omega arith) ∙ getD-drop b ss (i - b) 0 ∙ ap (λ (j : ℕ). getD ss j 0) k in
+        rw q at (o .none (i - b) (omega (arith, length-take-le w (drop b ss) (omega (arith, length-drop b ss)))) (rw q v))
 
 pub next-one : (z : ℕ) (ss : List ℕ) → z < 16 → Next z (z + 1) ss
 next-one z ss h = record { above = omega arith; most = omega arith; none = λ i l w. omega arith }

@@ -1,59 +1,65 @@
--- The next reliability above z among the symbols passed. Assumes nothing.
-use Prim.Native.Nat.{_-_, _≤_}
+-- Whole sixteens and the last sixteen leave out no symbol. Assumes nothing.
+use Prim.Native.Nat.{_-_, _%_}
 use native.Mathlib.Omega.{arith}
-use lib.ListN.{length}
-use Rattle.ranking.proofs.Steps.{Nearest, nearest-none, nearest-more}
 use borrow.Author.Needs.{needs}
+use lib.ListN.{length}
+use lib.Seq.{length-take-le}
+use mathlib.Core.Path.{sym}
+use Rattle.ranking.proofs.Steps.{next-parts}
 use Rattle.ranking.proofs.next_above.Statement.{statement}
 use Rattle.ranking.proofs.next_above.Tie as tie
 
-abbrev Inv-loop : tie.InvT-loop
-Inv-loop s z next₀ i₀ next i = (i ≤ length s) × Nearest z next i s
+least-above-requires : tie.Need-least-above-requires
+least-above-requires c κs = search needs
 
-abbrev μ-loop : tie.MeasureT-loop
-μ-loop s z next₀ i₀ next i = length s - i
+returns : tie.Need-returns
+returns c = search needs
 
-loop-holds : tie.Need-loop-holds Inv-loop μ-loop
-loop-holds c = (omega arith, nearest-none (c .before .args .z) (c .before .args .s .now) (c .before .pre))
+sub-whole : tie.Need-sub-whole
+sub-whole c = search needs
 
-shared-slice-read-above : tie.Need-shared-slice-read-above Inv-loop μ-loop
-shared-slice-read-above c = search needs
+slice-aggregate-least-above : tie.Need-slice-aggregate-least-above
+slice-aggregate-least-above c = sym (length-take-le _ _ (omega arith))
 
-above-requires : tie.Need-above-requires Inv-loop μ-loop
-above-requires c κs = search needs
+least-above-requires-2 : tie.Need-least-above-requires-2
+least-above-requires-2 c κs = search needs
 
-lower-requires : tie.Need-lower-requires Inv-loop μ-loop
+sub-least-above : tie.Need-sub-least-above
+sub-least-above c = search needs
+
+part-least-above-start : tie.Need-part-least-above-start
+part-least-above-start c = search needs
+
+part-least-above-end : tie.Need-part-least-above-end
+part-least-above-end c = search needs
+
+least-above-requires-3 : tie.Need-least-above-requires-3
+least-above-requires-3 c κs = search needs
+
+lower-requires : tie.Need-lower-requires
 lower-requires c κs = search needs
 
-add-i : tie.Need-add-i Inv-loop μ-loop
-add-i c = search needs
-
-loop-less : tie.Need-loop-less Inv-loop μ-loop
-loop-less c = search needs
-
-loop-again : tie.Need-loop-again Inv-loop μ-loop
-loop-again c =
-    let l = c .before .before .before .before .loop in
-    let a = c .before .before .before .before .before .before .args in
-    (omega arith, nearest-more (a .z) (l .next) (l .i) (c .before .above .result) (c .lower .result) (a .s .now) (l .inv .1) (c .before .above .ensures) (c .lower .ensures))
-
-returns : tie.Need-returns Inv-loop μ-loop
-returns c =
-    let l = c .before .loop in
-    let a = c .before .before .before .args in
-    record { above = l .inv .1 .above; most = l .inv .1 .most; none = λ i h w. l .inv .1 .none i (omega arith) w }
+returns-2 : tie.Need-returns-2
+returns-2 c =
+    let a = c .before .before .before .before .before .before .before .args in
+    let ss = a .s .now in
+    let y = c .before .before .before .least-above2 in
+    let x = c .before .least-above3 in
+    next-parts (a .z) (y .result) (x .result) (c .lower .result) (length ss - length ss % 16) (length ss - 16) (length ss - (length ss - 16)) ss
+    (y .ensures) (x .ensures) (c .lower .ensures) (omega arith) (omega arith) (omega (arith, c .before .before .before .before .before .if1 .left))
 
 pub next-above-spec : {M : Type 1} → statement M
 next-above-spec =
     tie.close
     (tie.spec
-    Inv-loop
-    μ-loop
-    loop-holds
-    shared-slice-read-above
-    above-requires
+    least-above-requires
+    returns
+    sub-whole
+    slice-aggregate-least-above
+    least-above-requires-2
+    sub-least-above
+    part-least-above-start
+    part-least-above-end
+    least-above-requires-3
     lower-requires
-    add-i
-    loop-less
-    loop-again
-    returns)
+    returns-2)
