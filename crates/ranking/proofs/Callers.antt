@@ -38,7 +38,7 @@ module _ (size : ℕ) (ss : List ℕ) (few : size ≤ 8) (most : length ss ≤ 1
 
 -- the two arrays of an answer
 module _ (count : ℕ) (ss at more : List ℕ) (first : at ≡ take 6 (weakestKeys count ss)) (second : more ≡ drop 6 (weakestKeys count ss)) where
-  pub length-first : length at ≡ 6
+  length-first : length at ≡ 6
   length-first = ap length first ∙ length-take-le 6 (weakestKeys count ss) (omega (arith, length-weakest count ss))
 
   pub length-second : length more ≡ 2

@@ -3,10 +3,10 @@ use Prim.Native.Nat.{ℕ, zero, suc, _+_, _-_, _*_, _/_, _^_, _≤_, _<_}
 use native.Mathlib.Omega.{arith}
 use native.Mathlib.Numerals.{add-one}
 use mathlib.Core.Path.{_≡_, refl, ap, sym, _∙_}
-use mathlib.Core.List.{List, [], _∷_, _++_, append-assoc, append-nil}
+use mathlib.Core.List.{List, [], _∷_, _++_, append-assoc}
 use lib.Count.{trailingZeros}
-use lib.ListN.{length, getD, take, drop, set, replicate, length-append, length-take, length-drop, length-set, length-replicate}
-use lib.Seq.{take-all, take-suc, drop-cons, length-take-le, take-set-lt, set-append-seam, set-append-left}
+use lib.ListN.{length, take, drop, set, replicate, length-append, length-take, length-drop, length-replicate}
+use lib.Seq.{take-all, length-take-le, take-set-lt, set-append-seam, set-append-left}
 use Rattle.chase.proofs.ranking.Keys.{take-replicate}
 use Rattle.ranking.specs.Weakest.{padded}
 use Rattle.ranking.specs.Levels.{marks, bitsOf, bitKeys, levelFrom, levelKeys, endOf, keysLeft, toCome, Sound, Sought, Stepped}
@@ -101,17 +101,14 @@ unfolding levelKeys
 start-come ss = empty-come start ss refl
 
 -- the key of the lowest bit is the next
-module _ (c : Cursor) (sound : Sound c) (some : 0 < c .left) where
-  abbrev t : ℕ
-  t = trailingZeros 32 (c .left)
-
+module _ (c : Cursor) (sound : Sound c) (some : 0 < c .left) (t : ℕ) (zeros : t ≡ trailingZeros 32 (c .left)) where
   low : Lowest (endOf c - c .key) (c .left) (c .key) t
-  low = lowest (endOf c - c .key) 32 (c .left) (c .key) (omega (arith, sound .few)) some (sound .bits)
+  low = rw zeros (lowest (endOf c - c .key) 32 (c .left) (c .key) (omega (arith, sound .few)) some (sound .bits))
 
-  pub zeros-few : trailingZeros 32 (c .left) < 16
+  pub zeros-few : t < 16
   zeros-few = omega (arith, low .within, sound .few)
 
-  pub stepped : Stepped c (record { z = c .z; next = c .next; key = c .key + trailingZeros 32 (c .left) + 1; left = c .left / 2 ^ trailingZeros 32 (c .left) / 2 })
+  pub stepped : Stepped c (record { next = c .next; left = c .left / 2 ^ t / 2; key = c .key + t + 1; z = c .z })
   unfolding toCome
   stepped =
       let e : endOf c - (c .key + t + 1) ≡ endOf c - c .key - suc t = omega arith in

@@ -6,7 +6,7 @@ use native.Mathlib.Numerals.{add-one}
 use native.Mathlib.Nat.{pow-succ', div-div-eq-div-mul, div-one, zero-div}
 use mathlib.Core.Path.{_≡_, refl, ap, ap₂, sym, _∙_}
 use mathlib.Core.Bool.{Bool, true, false, cond, _||_}
-use mathlib.Core.List.{List, [], _∷_, _++_, append-nil}
+use mathlib.Core.List.{List, [], _∷_, _++_}
 use borrow.Author.Tests.{eq-eqb, ne-eqb}
 use lib.Dec.{eqb}
 use lib.Pow.{pow-mono}
@@ -17,31 +17,31 @@ use Rattle.ranking.specs.Levels.{marks, anyOf, bitsOf, marked, bitKeys, 
 
 -- ---- marks
 
-pub length-marks : (z : ℕ) (ss : List ℕ) → length (marks z ss) ≡ length ss
+length-marks : (z : ℕ) (ss : List ℕ) → length (marks z ss) ≡ length ss
 unfolding marks
 length-marks z ss = length-map ss (λ (s : ℕ). eqb (s % 16) z)
 
 -- the marks from i on
-pub marks-at : (z i : ℕ) (ss : List ℕ) → i < length ss → drop i (marks z ss) ≡ eqb (getD ss i 0 % 16) z ∷ drop (suc i) (marks z ss)
+marks-at : (z i : ℕ) (ss : List ℕ) → i < length ss → drop i (marks z ss) ≡ eqb (getD ss i 0 % 16) z ∷ drop (suc i) (marks z ss)
 unfolding marks
 marks-at z zero [] h = absurd (omega arith)
 marks-at z zero (s ∷ ss) h = refl
 marks-at z (suc i) [] h = absurd (omega arith)
 marks-at z (suc i) (s ∷ ss) h = marks-at z i ss (omega arith)
 
-pub marks-drop : (z i : ℕ) (ss : List ℕ) → marks z (drop i ss) ≡ drop i (marks z ss)
+marks-drop : (z i : ℕ) (ss : List ℕ) → marks z (drop i ss) ≡ drop i (marks z ss)
 unfolding marks
 marks-drop z zero ss = refl
 marks-drop z (suc i) [] = refl
 marks-drop z (suc i) (s ∷ ss) = marks-drop z i ss
 
-pub marks-take : (z i : ℕ) (ss : List ℕ) → marks z (take i ss) ≡ take i (marks z ss)
+marks-take : (z i : ℕ) (ss : List ℕ) → marks z (take i ss) ≡ take i (marks z ss)
 unfolding marks
 marks-take z zero ss = refl
 marks-take z (suc i) [] = refl
 marks-take z (suc i) (s ∷ ss) = ap (λ (l : List Bool). eqb (s % 16) z ∷ l) (marks-take z i ss)
 
-pub marks-end : (z i : ℕ) (ss : List ℕ) → i ≡ length ss → drop i (marks z ss) ≡ []
+marks-end : (z i : ℕ) (ss : List ℕ) → i ≡ length ss → drop i (marks z ss) ≡ []
 marks-end z i ss h = rw (h, ← length-marks z ss, drop-length)
 
 -- ---- whether there is a mark
@@ -90,11 +90,11 @@ bits-pow (true ∷ bs) = rw (pow-succ' 2 (length bs)) (omega (arith, bits-pow bs
 bits-pow (false ∷ bs) = rw (pow-succ' 2 (length bs)) (omega (arith, bits-pow bs))
 
 -- sixteen marks are sixteen bits
-pub bits-small : (bs : List Bool) → length bs ≤ 16 → bitsOf bs < 65536
+bits-small : (bs : List Bool) → length bs ≤ 16 → bitsOf bs < 65536
 bits-small bs h = omega (arith, bits-pow bs, pow-mono h)
 
 -- the marks from i on, and the one before
-pub bits-more : (z i bits : ℕ) (ss : List ℕ) → i < length ss → bits ≡ bitsOf (drop (suc i) (marks z ss))
+bits-more : (z i bits : ℕ) (ss : List ℕ) → i < length ss → bits ≡ bitsOf (drop (suc i) (marks z ss))
     → 2 * bits + cond (eqb (getD ss i 0 % 16) z) 1 0 ≡ bitsOf (drop i (marks z ss))
 unfolding bitsOf
 bits-more z i bits ss h e = rw (marks-at z i ss h, e)
@@ -114,7 +114,7 @@ unfolding bitsOf
 bits-none z i ss h = rw (marks-end z i ss h)
 
 -- a shift drops marks
-pub bits-drop : (j : ℕ) (bs : List Bool) → bitsOf bs / 2 ^ j ≡ bitsOf (drop j bs)
+bits-drop : (j : ℕ) (bs : List Bool) → bitsOf bs / 2 ^ j ≡ bitsOf (drop j bs)
 unfolding bitsOf
 bits-drop zero bs = div-one (bitsOf bs)
 bits-drop (suc j) [] = zero-div (2 ^ suc j)
@@ -141,7 +141,7 @@ unfolding bitKeys
 keys-even n x k e = rw (ne-eqb (x % 2) 1 (λ q. omega arith))
 
 -- are the marked ones
-pub keys-marked : (n k : ℕ) (bs : List Bool) → length bs ≤ n → bitKeys n (bitsOf bs) k ≡ marked k bs
+keys-marked : (n k : ℕ) (bs : List Bool) → length bs ≤ n → bitKeys n (bitsOf bs) k ≡ marked k bs
 unfolding bitsOf marked
 keys-marked n k [] h = keys-none n k
 keys-marked zero k (b ∷ bs) h = absurd (omega arith)

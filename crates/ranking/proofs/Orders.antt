@@ -43,12 +43,12 @@ levels-keys (suc left) k ss =
     ∙ ap₂ (λ (xs ys : List ℕ). xs ++ ys) (level-keys k 0 ss) (levels-keys left (suc k) ss)
 
 -- the keys in the weakest order
-pub ranked-levels : (ss : List ℕ) → levelKeys 16 0 ss ≡ rankedKeys ss
+ranked-levels : (ss : List ℕ) → levelKeys 16 0 ss ≡ rankedKeys ss
 unfolding rankedKeys
 ranked-levels ss = sym (ap (map keyOf) (rank-levels 16 0 (reliabilities ss) (λ i h. reliability-lt ss i)) ∙ levels-keys 16 0 ss)
 
 -- the first 1024 symbols
-pub first-symbols : (n : ℕ) (ss : List ℕ) → n ≡ min (length ss) 1024 → take n ss ≡ take 1024 ss
+first-symbols : (n : ℕ) (ss : List ℕ) → n ≡ min (length ss) 1024 → take n ss ≡ take 1024 ss
 first-symbols n ss m =
     elim (decLe (length ss) 1024) [
       | yes h ↦ take-all n ss (omega arith) ∙ sym (take-all 1024 ss h)

@@ -8,7 +8,7 @@ use mathlib.Core.List.{List, [], _∷_, _++_}
 use borrow.Author.Tests.{ne-eqb}
 use lib.ListN.{length, getD, take, drop, length-drop}
 use lib.Seq.{getD-take, getD-drop, length-take-le}
-use Rattle.ranking.specs.Levels.{marks, anyOf, marked, levelFrom, levelKeys, Next}
+use Rattle.ranking.specs.Levels.{marks, anyOf, levelFrom, levelKeys, Next}
 use Rattle.ranking.proofs.Marking.{any-none}
 
 -- ---- the next level

@@ -41,7 +41,8 @@ test-words c p b to ss ts h e m l holds =
       long,
     )
 
-module _ (c : refusal.Code) (tables ss : List ℕ) (keys : Keys) (p : ℕ) (ts : List ℕ) (ready : Ready c tables ss keys p) (tests : TestWords (codeOf c) p ss ts) where
+module _ (c : refusal.Code) (tables ss : List ℕ) (keys : Keys) (p : ℕ) (ts : List ℕ) (ready : Ready c tables ss keys p)
+    (tests : TestWords (codeOf c) p ss ts) where
   -- the first six keys, and all eight
   abbrev ks : List ℕ
   ks = keys .at

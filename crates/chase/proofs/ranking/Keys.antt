@@ -61,7 +61,7 @@ rising-order x (y ∷ ys) (suc i) zero r o h = absurd (omega arith)
 rising-order x (y ∷ ys) (suc i) (suc j) r o h = rising-order y ys i j (r .1) (omega arith) (omega arith)
 
 -- equal keys rise
-pub rising-replicate : (x y n : ℕ) → x ≤ y → Rising x (replicate n y)
+rising-replicate : (x y n : ℕ) → x ≤ y → Rising x (replicate n y)
 unfolding Rising
 rising-replicate x y zero h = tt
 rising-replicate x y (suc n) h = (h, rising-replicate y y n (omega arith))
@@ -170,7 +170,8 @@ module _ (size : ℕ) (ss : List ℕ) (most : length ss ≤ 1024) where
   rising-all =
       rising-keys size 0 (rank 0 zs) (omega arith) (all-map Small (λ r. 0 ≤ keyOf r) (λ r h. omega arith) (rank 0 zs) small) small (ordered 0 zs)
 
-  module _ (ks : List ℕ) (listed : take size ks ≡ take size (map (λ (r : Ranked). key (r .z) (r .at)) (rank 0 (reliabilities ss)) ++ replicate size 65535)) where
+  module _ (ks : List ℕ)
+      (listed : take size ks ≡ take size (map (λ (r : Ranked). key (r .z) (r .at)) (rank 0 (reliabilities ss)) ++ replicate size 65535)) where
     first-listed : take size ks ≡ take size (all ++ pad)
     unfolding zs pad all keyOf
     first-listed = listed

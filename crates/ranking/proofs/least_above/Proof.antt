@@ -35,7 +35,9 @@ loop-again : tie.Need-loop-again Inv-loop μ-loop
 loop-again c =
     let l = c .before .before .before .before .loop in
     let a = c .before .before .before .before .before .before .args in
-    (omega arith, nearest-more (a .z) (l .next) (l .i) (c .before .above .result) (c .lower .result) (a .s .now) (l .inv .1) (c .before .above .ensures) (c .lower .ensures))
+    let x = c .before .above in
+    let r = c .lower in
+    (omega arith, nearest-more (a .z) (l .next) (l .i) (x .result) (r .result) (a .s .now) (l .inv .1) (x .ensures) (r .ensures))
 
 returns : tie.Need-returns Inv-loop μ-loop
 returns c =

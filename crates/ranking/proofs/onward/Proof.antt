@@ -3,7 +3,6 @@ use Prim.Native.Nat.{ℕ, suc, _-_, _≤_}
 use native.Mathlib.Omega.{arith}
 use mathlib.Core.Path.{_≡_, refl, ap, sym, _∙_}
 use mathlib.Core.List.{List, _++_}
-use borrow.Author.Needs.{needs}
 use Rattle.ranking.specs.Levels.{levelFrom, levelKeys, toCome}
 use Rattle.ranking.proofs.Steps.{levels-over, levels-next}
 use Rattle.ranking.proofs.Cursors.{sought-come, empty-come}

@@ -1,5 +1,5 @@
 -- The keys by levels are the keys in the weakest order. Assumes nothing.
-use Prim.Native.Nat.{_≤_, min}
+use Prim.Native.Nat.{min}
 use native.Mathlib.Omega.{arith}
 use mathlib.Core.Path.{_≡_}
 use borrow.Author.Needs.{needs}
@@ -18,17 +18,14 @@ slice-aggregate-first-keys : tie.Need-slice-aggregate-first-keys
 slice-aggregate-first-keys c =
     let ss = c .before .before .before .before .args .symbols .now in
     let n = c .before .least2 in
-    let e : n .result ≡ min (length ss) 1024 = n .ensures in
-    omega (arith, length-take (n .result) ss)
+    omega (arith, n .ensures, length-take (n .result) ss)
 
 first-keys-requires : tie.Need-first-keys-requires
 first-keys-requires c κs =
     let s = c .before .before .before .before in
     let ss = s .args .symbols .now in
     let n = c .before .least2 in
-    let e : n .result ≡ min (length ss) 1024 = n .ensures in
-    let f : c .before .before .least .result ≡ min (s .args .count) 8 = c .before .before .least .ensures in
-    (omega (arith, length-take (n .result) ss), omega arith)
+    (omega (arith, n .ensures, length-take (n .result) ss), omega (arith, c .before .before .least .ensures))
 
 returns : tie.Need-returns
 returns c =

@@ -44,7 +44,8 @@ loop-again c =
     let s = c .before .before .before .before .before in
     let a = s .args in
     let e : 2 * l .bits + c .one-if .result ≡ bitsOf (drop (l .i - 1) (marks (a .z) (a .s .now)))
-    = ap (λ (x : ℕ). 2 * l .bits + x) (c .one-if .ensures .0) ∙ bits-before (a .z) (l .i) (l .bits) (a .s .now) (omega arith) (omega (arith, s .pre)) (l .inv .2) in
+    = ap (λ (x : ℕ). 2 * l .bits + x) (c .one-if .ensures .0)
+    ∙ bits-before (a .z) (l .i) (l .bits) (a .s .now) (omega arith) (omega (arith, s .pre)) (l .inv .2) in
     (omega arith, omega (arith, e, bits-from (a .z) (l .i - 1) (a .s .now) (omega (arith, s .pre))), e)
 
 returns : tie.Need-returns Inv-loop μ-loop

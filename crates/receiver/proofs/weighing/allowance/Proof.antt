@@ -42,10 +42,12 @@ loop-again : tie.Need-loop-again Inv-loop μ-loop
 loop-again c =
     let s = c .before .before .before .before in
     let l = c .before .before .before .loop in
-    let ks = s .args .keys .at ++ s .args .keys .more in (
+    let keys = s .args .keys in
+    let held = c .held .ensures .0 ∙ ap (λ (k : ℕ). k / 1024) (c .before .key-at .ensures) in (
       omega arith,
       omega (arith, c .held .ensures .1),
-      ap₂ _+_ (l .inv .2) (c .held .ensures .0 ∙ ap (λ (k : ℕ). k / 1024) (c .before .key-at .ensures)) ∙ sym (weighed-more (l .k) ks (omega (arith, length-append (s .args .keys .at) (s .args .keys .more)))),
+      ap₂ _+_ (l .inv .2) held
+          ∙ sym (weighed-more (l .k) (keys .at ++ keys .more) (omega (arith, length-append (keys .at) (keys .more)))),
     )
 
 returns : tie.Need-returns Inv-loop μ-loop
