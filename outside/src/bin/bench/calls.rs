@@ -1,6 +1,6 @@
 //! The rows: each call of the receiver, made by all that can make it.
 use crate::c::{self, Decoder};
-use crate::draw::{self, Noise};
+use crate::draw::{self, Channel};
 use crate::itpp::Itpp;
 use crate::row::{each, Column, Results, Row};
 use crate::table::{name, Line};
@@ -76,8 +76,8 @@ fn same_messages(code: Code, ours: &Results<Hard>, theirs: &Results<Hard>) -> bo
     pairs.all(|(codeword, message)| codeword.ends_with(message)) && rest[..WORDS].iter().all(|&decoded| decoded == 1)
 }
 
-pub fn soft(code: Code, noise: Noise, depth: usize) -> Result<Line, String> {
-    let words = &draw::noisy_words(code, noise, WORDS);
+pub fn soft(code: Code, channel: Channel, depth: usize) -> Result<Line, String> {
+    let words = &draw::received_words(code, channel, WORDS);
     let reference = reference(code);
     let mut row = Row::new(WORDS, code.n);
     row.add(Column::Receiver, each(|i, codeword| archive::decode_soft(code, depth, words.at(i), codeword)));
@@ -89,7 +89,7 @@ pub fn soft(code: Code, noise: Noise, depth: usize) -> Result<Line, String> {
     for c in Decoder::closed_form(code) {
         row.add(Column::C, each(move |i, codeword| Ok(c.soft(depth, words.at(i), codeword))));
     }
-    Line::measure("soft", name(code), format!("{} noise, depth {}", noise.name, depth), WORDS, row)
+    Line::measure("soft", name(code), format!("{}, depth {}", channel.name, depth), WORDS, row)
 }
 
 /// The textbook makes all tries, and otherwise gives what the receiver gives.
@@ -108,8 +108,8 @@ fn soft_without_tries(answer: Soft) -> Soft {
     }
 }
 
-pub fn read_take(code: Code, words: usize, noise: Noise, depth: usize) -> Result<Line, String> {
-    let take = &draw::take(code, depth, 0, &draw::noisy_words(code, noise, words));
+pub fn read_take(code: Code, words: usize, channel: Channel, depth: usize) -> Result<Line, String> {
+    let take = &draw::take(code, depth, 0, &draw::received_words(code, channel, words));
     let symbols = &take[12..];
     let mut row = Row::new(1, words * (message_length(code) + 1));
     row.add(Column::Receiver, reading(words, |messages, marks| archive::read_take(take, messages, marks)));
@@ -121,7 +121,7 @@ pub fn read_take(code: Code, words: usize, noise: Noise, depth: usize) -> Result
     for c in Decoder::closed_form(code) {
         row.add(Column::C, reading(words, move |messages, marks| Ok(c.read_words(depth, symbols, messages, marks))));
     }
-    let case = format!("{} words, {} noise, depth {}", words, noise.name, depth);
+    let case = format!("{} words, {}, depth {}", words, channel.name, depth);
     Line::measure("read_take", name(code), case, words, row)
 }
 

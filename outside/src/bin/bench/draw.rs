@@ -3,17 +3,32 @@ use outside::archive::encode;
 use outside::draw::Draw;
 use outside::reference::Code;
 
-/// How strong the noise is: the sum of so many draws of -1, 0 and 1, where a bit is sent as the level 8 or -8.
+/// What a sent bit becomes.
 #[derive(Clone, Copy)]
-pub struct Noise {
+pub struct Channel {
     pub name: &'static str,
-    draws: usize,
+    symbol: fn(&mut Draw, u8) -> u8,
 }
 
 /// About 2.2 wrong bits in 255.
-pub const LIGHT: Noise = Noise { name: "light", draws: 17 };
+pub const LIGHT: Channel = Channel { name: "light noise", symbol: |draw, bit| noisy(draw, bit, 17) };
 /// About 7.1 wrong bits in 255.
-pub const HEAVY: Noise = Noise { name: "heavy", draws: 26 };
+pub const HEAVY: Channel = Channel { name: "heavy noise", symbol: |draw, bit| noisy(draw, bit, 26) };
+/// No wrong bits, and about 8 reliabilities in 255 below 15: the weakest symbols stand on many levels, and the lower ones are empty.
+pub const STRONG: Channel = Channel { name: "strong", symbol: strong };
+
+/// A bit is sent as the level 8 or -8, and the noise is the sum of so many draws of -1, 0 and 1.
+fn noisy(draw: &mut Draw, bit: u8, draws: usize) -> u8 {
+    let sent = if bit == 1 { -8 } else { 8 };
+    let level = (0..draws).fold(sent, |level, _| level + draw.below(3) as i32 - 1);
+    16 * u8::from(level < 0) + level.abs().min(15) as u8
+}
+
+/// One symbol in 32 has a reliability from 8 to 14, and the others 15.
+fn strong(draw: &mut Draw, bit: u8) -> u8 {
+    let reliability = if draw.once_in(32) { 8 + draw.below(7) } else { 15 };
+    16 * bit + reliability as u8
+}
 
 /// Items of one length that stand one behind the other.
 pub struct Words<T> {
@@ -41,13 +56,6 @@ fn codeword(draw: &mut Draw, code: Code) -> Vec<u8> {
     codeword
 }
 
-/// The symbol that a bit becomes.
-fn symbol(draw: &mut Draw, bit: u8, noise: Noise) -> u8 {
-    let sent = if bit == 1 { -8 } else { 8 };
-    let level = (0..noise.draws).fold(sent, |level, _| level + draw.below(3) as i32 - 1);
-    16 * u8::from(level < 0) + level.abs().min(15) as u8
-}
-
 pub fn messages(code: Code, count: usize) -> Words<u8> {
     let length = code.n - code.m * code.t;
     let mut all = vec![0; count * length];
@@ -70,13 +78,13 @@ pub fn wrong_words(code: Code, errors: usize, count: usize) -> Words<u8> {
     Words { length: code.n, all }
 }
 
-/// Words of noisy symbols.
-pub fn noisy_words(code: Code, noise: Noise, count: usize) -> Words<u8> {
+/// Codewords as the channel gives them.
+pub fn received_words(code: Code, channel: Channel, count: usize) -> Words<u8> {
     let mut draw = Draw::new(SEED);
     let mut all = Vec::new();
     for _ in 0..count {
         let sent = codeword(&mut draw, code);
-        all.extend(sent.into_iter().map(|bit| symbol(&mut draw, bit, noise)));
+        all.extend(sent.into_iter().map(|bit| (channel.symbol)(&mut draw, bit)));
     }
     Words { length: code.n, all }
 }

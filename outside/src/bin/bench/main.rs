@@ -9,7 +9,7 @@ mod row;
 mod table;
 mod takelist;
 
-use draw::{HEAVY, LIGHT};
+use draw::{HEAVY, LIGHT, STRONG};
 use outside::reference::Code;
 use std::fs;
 use std::process::ExitCode;
@@ -45,6 +45,7 @@ fn print_setting() {
         "Nanoseconds of processor time for a word (quantise: a sample; takelist: of real time for a byte of the take, its\n\
          start included): the least of up to {} rounds, in which the columns take turns (takelist: of 100 runs). In brackets: times the receiver's.\n\
          Light noise turns 0.9 percent of the bits, heavy noise 2.8 percent: 2.2 and 7.1 bits in 255.\n\
+         Strong words have no wrong bits, and the reliability 15 but for 3 percent of the symbols, which have 8 to 14.\n\
          Rust: outside/src/reference.rs, made to be plain. Textbook C, C: outside/c/core.c, the faster of two builds.\n\
          C decodes as the receiver does (by other tables, and its quantiser makes four comparisons\n\
          where the receiver makes fifteen), checks nothing, and has its tables before the clock starts, as Rust and IT++\n\
@@ -86,18 +87,21 @@ fn sweep() -> Result<Vec<Line>, String> {
         }
     }
     for code in [SHORT, LONG] {
-        for noise in [LIGHT, HEAVY] {
+        for channel in [LIGHT, HEAVY] {
             for depth in [0, 3, 6] {
-                lines.push(calls::soft(code, noise, depth)?);
+                lines.push(calls::soft(code, channel, depth)?);
             }
         }
     }
     for (code, words) in [(SHORT, 900), (SHORT, 4000), (LONG, 200), (LONG, 2000)] {
-        for noise in [LIGHT, HEAVY] {
+        for channel in [LIGHT, HEAVY] {
             for depth in [0, 3, 6] {
-                lines.push(calls::read_take(code, words, noise, depth)?);
+                lines.push(calls::read_take(code, words, channel, depth)?);
             }
         }
+    }
+    for (code, words) in [(SHORT, 4000), (LONG, 2000)] {
+        lines.push(calls::read_take(code, words, STRONG, 0)?);
     }
     lines.push(calls::quantise("no blanks", false)?);
     lines.push(calls::quantise("half of them blank", true)?);

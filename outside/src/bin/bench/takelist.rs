@@ -23,7 +23,7 @@ pub fn program() -> Option<PathBuf> {
 /// Measures a take at depth 0, of as many words as go into it. Its unit is a byte.
 pub fn line(program: &Path, code: Code) -> Result<Line, String> {
     let words = (BYTES - 12) / code.n;
-    let take = draw::take(code, 0, BYTES - 12 - words * code.n, &draw::noisy_words(code, LIGHT, words));
+    let take = draw::take(code, 0, BYTES - 12 - words * code.n, &draw::received_words(code, LIGHT, words));
     let (took, listing) = list(program, &take).map_err(|error| format!("takelist: {}", error))?;
     if listing.lines().last() != Some(totals(code, words, &take).as_str()) {
         return Err(format!("takelist {}: its totals are not those of read_take", table::name(code)));
