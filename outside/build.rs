@@ -1,5 +1,5 @@
-//! Builds what the program `bench` times the receiver against: the C of c/ twice, without and with branches, and cpp/itpp.cpp where
-//! IT++ is installed. Tells the program which compilers and which IT++ these were.
+//! Builds what the program `bench` times the receiver against: the C of c/, and cpp/itpp.cpp where IT++ is installed. Tells the program
+//! which compilers and which IT++ these were.
 use std::env;
 use std::path::{Path, PathBuf};
 use std::process::Command;
@@ -47,7 +47,6 @@ fn main() {
     let cc = version("cc").expect("the benchmarks need a C compiler, and there is no cc");
     compile("cc", &["-std=c11"], "c/clock.c", "clock.o");
     compile("cc", &["-std=c11"], "c/core.c", "core.o");
-    compile("cc", &["-std=c11", "-DBRANCHES"], "c/core.c", "core_branches.o");
     let itpp = compile_itpp().unwrap_or_else(|| {
         compile("cc", &["-std=c11"], "cpp/no_itpp.c", "no_itpp.o");
         "IT++ (libitpp-dev) was not there when this was built: its column is empty".to_string()

@@ -1,26 +1,19 @@
 /*
  * What the receiver's times are measured against, in C: an encoder, two decoders of binary BCH codes and a quantiser. Nothing is
- * checked here, and the tables of a code are filled before any word is decoded.
+ * checked here, and the tables of a code are filled before any word is decoded. It needs SSE2, which every x86-64 has.
  *
- * - decode_hard, decode_soft and read_words decode as the receiver does: the syndromes of a test word are those of the received bits
- *   plus those of the flipped weak positions, the roots of the locator come in closed form from tables of solutions, and the search ends
- *   with the first codeword that is sure.
+ * - core_decode_hard, core_decode_soft and core_read_words decode as the receiver does: the syndromes of a test word are those of the
+ *   received bits plus those of the flipped weak positions, the roots of the locator come in closed form from tables of solutions, and
+ *   the search ends with the first codeword that is sure.
  *
- * - textbook_hard, textbook_soft and textbook_words decode as a textbook has it: each of the 2^p test words is written out and decoded
- *   for itself, with the syndromes added up over its n positions and the locator's roots searched among n positions.
+ * - core_textbook_hard, core_textbook_soft and core_textbook_words decode as a textbook has it: each of the 2^p test words is written out
+ *   and decoded for itself, with the syndromes added up over its n positions and the locator's roots searched among n positions.
  */
 #ifndef CORE_H
 #define CORE_H
 
 #include <stddef.h>
 #include <stdint.h>
-
-/* core.c is built twice, without and with branches where it ranks. */
-#ifdef BRANCHES
-#define CORE(name) core_branches_##name
-#else
-#define CORE(name) core_plain_##name
-#endif
 
 /* A code and its tables. */
 struct code;
@@ -39,22 +32,22 @@ struct totals {
     uint32_t marks[3], tries;
 };
 
-struct code *CORE(new_code)(uint32_t m, uint32_t t, uint32_t n);
-void CORE(free_code)(struct code *);
+struct code *core_new_code(uint32_t m, uint32_t t, uint32_t n);
+void core_free_code(struct code *);
 
-void CORE(encode)(const struct code *, const uint8_t *message, uint8_t *codeword);
+void core_encode(const struct code *, const uint8_t *message, uint8_t *codeword);
 
-/* The number of flips, and -1 for a lost word; so also textbook_hard. */
-int32_t CORE(decode_hard)(const struct code *, const uint8_t *bits, uint8_t *codeword);
-struct answer CORE(decode_soft)(const struct code *, uint32_t depth, const uint8_t *symbols, uint8_t *codeword);
-struct totals CORE(read_words)(const struct code *, uint32_t depth, size_t words, const uint8_t *symbols, uint8_t *messages,
+/* The number of flips, and -1 for a lost word; so also core_textbook_hard. */
+int32_t core_decode_hard(const struct code *, const uint8_t *bits, uint8_t *codeword);
+struct answer core_decode_soft(const struct code *, uint32_t depth, const uint8_t *symbols, uint8_t *codeword);
+struct totals core_read_words(const struct code *, uint32_t depth, size_t words, const uint8_t *symbols, uint8_t *messages,
                                uint8_t *marks);
 
-int32_t CORE(textbook_hard)(const struct code *, const uint8_t *bits, uint8_t *codeword);
-struct answer CORE(textbook_soft)(const struct code *, uint32_t depth, const uint8_t *symbols, uint8_t *codeword);
-struct totals CORE(textbook_words)(const struct code *, uint32_t depth, size_t words, const uint8_t *symbols, uint8_t *messages,
+int32_t core_textbook_hard(const struct code *, const uint8_t *bits, uint8_t *codeword);
+struct answer core_textbook_soft(const struct code *, uint32_t depth, const uint8_t *symbols, uint8_t *codeword);
+struct totals core_textbook_words(const struct code *, uint32_t depth, size_t words, const uint8_t *symbols, uint8_t *messages,
                                    uint8_t *marks);
 
-void CORE(quantise)(const float *edges, size_t samples, const uint8_t *kinds, const float *levels, uint8_t *symbols);
+void core_quantise(const float *edges, size_t samples, const uint8_t *kinds, const float *levels, uint8_t *symbols);
 
 #endif

@@ -24,43 +24,36 @@ struct Counts {
     tries: u32,
 }
 
-/// The functions of one decoder in one build.
+extern "C" {
+    fn core_new_code(m: u32, t: u32, n: u32) -> *mut Tables;
+    fn core_free_code(tables: *mut Tables);
+    fn core_encode(tables: *const Tables, message: *const u8, codeword: *mut u8);
+    fn core_decode_hard(tables: *const Tables, bits: *const u8, codeword: *mut u8) -> i32;
+    fn core_decode_soft(tables: *const Tables, depth: u32, symbols: *const u8, codeword: *mut u8) -> Answer;
+    fn core_read_words(tables: *const Tables, depth: u32, words: usize, symbols: *const u8, messages: *mut u8, marks: *mut u8) -> Counts;
+    fn core_textbook_hard(tables: *const Tables, bits: *const u8, codeword: *mut u8) -> i32;
+    fn core_textbook_soft(tables: *const Tables, depth: u32, symbols: *const u8, codeword: *mut u8) -> Answer;
+    fn core_textbook_words(
+        tables: *const Tables,
+        depth: u32,
+        words: usize,
+        symbols: *const u8,
+        messages: *mut u8,
+        marks: *mut u8,
+    ) -> Counts;
+    fn core_quantise(edges: *const f32, samples: usize, kinds: *const u8, levels: *const f32, symbols: *mut u8);
+    fn processor_time() -> u64;
+}
+
+/// The functions of one decoder.
 struct Calls {
-    new_code: unsafe extern "C" fn(u32, u32, u32) -> *mut Tables,
-    free_code: unsafe extern "C" fn(*mut Tables),
-    encode: unsafe extern "C" fn(*const Tables, *const u8, *mut u8),
     hard: unsafe extern "C" fn(*const Tables, *const u8, *mut u8) -> i32,
     soft: unsafe extern "C" fn(*const Tables, u32, *const u8, *mut u8) -> Answer,
     words: unsafe extern "C" fn(*const Tables, u32, usize, *const u8, *mut u8, *mut u8) -> Counts,
 }
 
-macro_rules! calls {
-    ($build:literal, $hard:literal, $soft:literal, $words:literal) => {{
-        extern "C" {
-            #[link_name = concat!("core_", $build, "_new_code")]
-            fn new_code(m: u32, t: u32, n: u32) -> *mut Tables;
-            #[link_name = concat!("core_", $build, "_free_code")]
-            fn free_code(tables: *mut Tables);
-            #[link_name = concat!("core_", $build, "_encode")]
-            fn encode(tables: *const Tables, message: *const u8, codeword: *mut u8);
-            #[link_name = concat!("core_", $build, $hard)]
-            fn hard(tables: *const Tables, bits: *const u8, codeword: *mut u8) -> i32;
-            #[link_name = concat!("core_", $build, $soft)]
-            fn soft(tables: *const Tables, depth: u32, symbols: *const u8, codeword: *mut u8) -> Answer;
-            #[link_name = concat!("core_", $build, $words)]
-            fn words(tables: *const Tables, depth: u32, words: usize, symbols: *const u8, messages: *mut u8, marks: *mut u8) -> Counts;
-        }
-        Calls { new_code, free_code, encode, hard, soft, words }
-    }};
-}
-
-static CLOSED_FORM: [Calls; 2] =
-    [calls!("plain", "_decode_hard", "_decode_soft", "_read_words"), calls!("branches", "_decode_hard", "_decode_soft", "_read_words")];
-
-static TEXTBOOK: [Calls; 2] = [
-    calls!("plain", "_textbook_hard", "_textbook_soft", "_textbook_words"),
-    calls!("branches", "_textbook_hard", "_textbook_soft", "_textbook_words"),
-];
+static CLOSED_FORM: Calls = Calls { hard: core_decode_hard, soft: core_decode_soft, words: core_read_words };
+static TEXTBOOK: Calls = Calls { hard: core_textbook_hard, soft: core_textbook_soft, words: core_textbook_words };
 
 /// A decoder of one code. Its tables are filled.
 pub struct Decoder {
@@ -70,27 +63,25 @@ pub struct Decoder {
 }
 
 impl Decoder {
-    /// The closed form, in each build.
-    pub fn closed_form(code: Code) -> impl Iterator<Item = Decoder> {
-        CLOSED_FORM.iter().map(move |calls| Decoder::new(code, calls))
+    pub fn closed_form(code: Code) -> Decoder {
+        Decoder::new(code, &CLOSED_FORM)
     }
 
-    /// The textbook, in each build.
-    pub fn textbook(code: Code) -> impl Iterator<Item = Decoder> {
-        TEXTBOOK.iter().map(move |calls| Decoder::new(code, calls))
+    pub fn textbook(code: Code) -> Decoder {
+        Decoder::new(code, &TEXTBOOK)
     }
 
     fn new(code: Code, calls: &'static Calls) -> Decoder {
         assert!((5..=8).contains(&code.m) && (1..=3).contains(&code.t) && (code.m * code.t + 1..1 << code.m).contains(&code.n));
         // Safety: the code is one of those that C has a generator for.
-        let tables = unsafe { (calls.new_code)(code.m as u32, code.t as u32, code.n as u32) };
+        let tables = unsafe { core_new_code(code.m as u32, code.t as u32, code.n as u32) };
         Decoder { code, calls, tables }
     }
 
     pub fn encode(&self, message: &[u8], codeword: &mut [u8]) {
         assert!(message.len() + self.code.m * self.code.t == self.code.n && codeword.len() == self.code.n);
         // Safety: the lengths are those of the code, as also below.
-        unsafe { (self.calls.encode)(self.tables, message.as_ptr(), codeword.as_mut_ptr()) }
+        unsafe { core_encode(self.tables, message.as_ptr(), codeword.as_mut_ptr()) }
     }
 
     pub fn hard(&self, bits: &[u8], codeword: &mut [u8]) -> Hard {
@@ -132,20 +123,15 @@ impl Decoder {
 impl Drop for Decoder {
     fn drop(&mut self) {
         // Safety: the tables are this decoder's alone.
-        unsafe { (self.calls.free_code)(self.tables) }
+        unsafe { core_free_code(self.tables) }
     }
 }
 
-extern "C" {
-    fn processor_time() -> u64;
-    fn core_plain_quantise(edges: *const f32, samples: usize, kinds: *const u8, levels: *const f32, symbols: *mut u8);
-}
-
-/// The quantiser, which is the same in both builds.
+/// The quantiser.
 pub fn quantise(edges: &[f32; 15], kinds: &[u8], levels: &[f32], symbols: &mut [u8]) {
     assert!(kinds.len() == levels.len() && symbols.len() == levels.len());
     // Safety: all three have as many samples.
-    unsafe { core_plain_quantise(edges.as_ptr(), levels.len(), kinds.as_ptr(), levels.as_ptr(), symbols.as_mut_ptr()) }
+    unsafe { core_quantise(edges.as_ptr(), levels.len(), kinds.as_ptr(), levels.as_ptr(), symbols.as_mut_ptr()) }
 }
 
 /// The processor time that this thread has used.

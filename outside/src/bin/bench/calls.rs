@@ -24,18 +24,17 @@ fn message_length(code: Code) -> usize {
 pub fn encode(code: Code) -> Result<Line, String> {
     let messages = &draw::messages(code, WORDS);
     let reference = reference(code);
+    let c = Decoder::closed_form(code);
     let mut row = Row::new(WORDS, code.n);
     row.add(Column::Receiver, each(|i, codeword| archive::encode(code, messages.at(i), codeword)));
     row.add(Column::Rust, each(|i, codeword| reference.encode(messages.at(i), codeword)));
-    for c in Decoder::closed_form(code) {
-        row.add(
-            Column::C,
-            each(move |i, codeword| {
-                c.encode(messages.at(i), codeword);
-                Ok(())
-            }),
-        );
-    }
+    row.add(
+        Column::C,
+        each(|i, codeword| {
+            c.encode(messages.at(i), codeword);
+            Ok(())
+        }),
+    );
     if let Some(itpp) = Itpp::new(code) {
         let pass = move |results: &mut Results<()>| itpp.encode(&messages.all, &mut results.bytes);
         row.add_like(Column::Itpp, |ours, theirs| ours.bytes == theirs.bytes, pass);
@@ -46,15 +45,12 @@ pub fn encode(code: Code) -> Result<Line, String> {
 pub fn hard(code: Code, errors: usize) -> Result<Line, String> {
     let words = &draw::wrong_words(code, errors, WORDS);
     let reference = reference(code);
+    let (textbook, c) = (Decoder::textbook(code), Decoder::closed_form(code));
     let mut row = Row::new(WORDS, code.n);
     row.add(Column::Receiver, each(|i, codeword| archive::decode_hard(code, words.at(i), codeword)));
     row.add(Column::Rust, each(|i, codeword| reference.decode_hard(words.at(i), codeword)));
-    for c in Decoder::textbook(code) {
-        row.add(Column::Textbook, each(move |i, codeword| Ok(c.hard(words.at(i), codeword))));
-    }
-    for c in Decoder::closed_form(code) {
-        row.add(Column::C, each(move |i, codeword| Ok(c.hard(words.at(i), codeword))));
-    }
+    row.add(Column::Textbook, each(|i, codeword| Ok(textbook.hard(words.at(i), codeword))));
+    row.add(Column::C, each(|i, codeword| Ok(c.hard(words.at(i), codeword))));
     if let Some(itpp) = Itpp::new(code) {
         let pass = move |results: &mut Results<Hard>| {
             let (messages, rest) = results.bytes.split_at_mut(WORDS * message_length(code));
@@ -79,16 +75,13 @@ fn same_messages(code: Code, ours: &Results<Hard>, theirs: &Results<Hard>) -> bo
 pub fn soft(code: Code, channel: Channel, depth: usize) -> Result<Line, String> {
     let words = &draw::received_words(code, channel, WORDS);
     let reference = reference(code);
+    let (textbook, c) = (Decoder::textbook(code), Decoder::closed_form(code));
     let mut row = Row::new(WORDS, code.n);
     row.add(Column::Receiver, each(|i, codeword| archive::decode_soft(code, depth, words.at(i), codeword)));
     row.add(Column::Rust, each(|i, codeword| reference.decode_soft(depth, words.at(i), codeword)));
-    for c in Decoder::textbook(code) {
-        let pass = each(move |i, codeword| Ok(c.soft(depth, words.at(i), codeword)));
-        row.add_like(Column::Textbook, same_but_tries(soft_without_tries), pass);
-    }
-    for c in Decoder::closed_form(code) {
-        row.add(Column::C, each(move |i, codeword| Ok(c.soft(depth, words.at(i), codeword))));
-    }
+    let pass = each(|i, codeword| Ok(textbook.soft(depth, words.at(i), codeword)));
+    row.add_like(Column::Textbook, same_but_tries(soft_without_tries), pass);
+    row.add(Column::C, each(|i, codeword| Ok(c.soft(depth, words.at(i), codeword))));
     Line::measure("soft", name(code), format!("{}, depth {}", channel.name, depth), WORDS, row)
 }
 
@@ -111,16 +104,13 @@ fn soft_without_tries(answer: Soft) -> Soft {
 pub fn read_take(code: Code, words: usize, channel: Channel, depth: usize) -> Result<Line, String> {
     let take = &draw::take(code, depth, 0, &draw::received_words(code, channel, words));
     let symbols = &take[12..];
+    let (textbook, c) = (Decoder::textbook(code), Decoder::closed_form(code));
     let mut row = Row::new(1, words * (message_length(code) + 1));
     row.add(Column::Receiver, reading(words, |messages, marks| archive::read_take(take, messages, marks)));
     row.add(Column::Rust, reading(words, |messages, marks| reference::read_take(take, messages, marks)));
-    for c in Decoder::textbook(code) {
-        let pass = reading(words, move |messages, marks| Ok(c.read_words(depth, symbols, messages, marks)));
-        row.add_like(Column::Textbook, same_but_tries(|totals| Totals { tries: 0, ..totals }), pass);
-    }
-    for c in Decoder::closed_form(code) {
-        row.add(Column::C, reading(words, move |messages, marks| Ok(c.read_words(depth, symbols, messages, marks))));
-    }
+    let pass = reading(words, |messages, marks| Ok(textbook.read_words(depth, symbols, messages, marks)));
+    row.add_like(Column::Textbook, same_but_tries(|totals| Totals { tries: 0, ..totals }), pass);
+    row.add(Column::C, reading(words, |messages, marks| Ok(c.read_words(depth, symbols, messages, marks))));
     let case = format!("{} words, {}, depth {}", words, channel.name, depth);
     Line::measure("read_take", name(code), case, words, row)
 }

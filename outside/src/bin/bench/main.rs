@@ -46,11 +46,11 @@ fn print_setting() {
          start included): the least of up to {} rounds, in which the columns take turns (takelist: of 100 runs). In brackets: times the receiver's.\n\
          Light noise turns 0.9 percent of the bits, heavy noise 2.8 percent: 2.2 and 7.1 bits in 255.\n\
          Strong words have no wrong bits, and the reliability 15 but for 3 percent of the symbols, which have 8 to 14.\n\
-         Rust: outside/src/reference.rs, made to be plain. Textbook C, C: outside/c/core.c, the faster of two builds.\n\
-         C decodes as the receiver does (by other tables, and its quantiser makes four comparisons\n\
-         where the receiver makes fifteen), checks nothing, and has its tables before the clock starts, as Rust and IT++\n\
-         have. The receiver checks its inputs and fills its tables in each call but encode. IT++'s time includes turning\n\
-         the words into its order. The buffers are not cleared between calls.",
+         Rust: outside/src/reference.rs, made to be plain. Textbook C, C: outside/c/core.c.\n\
+         C decodes as the receiver does (by other tables; it ranks by instructions of SSE2, and its quantiser makes four\n\
+         comparisons where the receiver makes fifteen), checks nothing, and has its tables before the clock starts, as\n\
+         Rust and IT++ have. The receiver checks its inputs and fills its tables in each call but encode. IT++'s time\n\
+         includes turning the words into its order. The buffers are not cleared between calls.",
         SWEEPS * row::ROUNDS
     );
     if takelist::program().is_none() {
