@@ -139,3 +139,30 @@ pub fn clock() -> Duration {
     // Safety: nothing is handed over.
     Duration::from_nanos(unsafe { processor_time() })
 }
+
+#[cfg(test)]
+mod tests {
+    use super::Decoder;
+    use outside::draw::Draw;
+    use outside::reference::{Code, Reference};
+
+    /// Words of every length: the codeword 0 with some wrong bits, and reliabilities from some level on.
+    #[test]
+    fn every_length() {
+        let mut draw = Draw::new(1);
+        for (m, t) in (5..=8).flat_map(|m| (1..=3).map(move |t| (m, t))) {
+            for n in m * t + 1..1 << m {
+                let code = Code::new(m, t, n);
+                let (c, reference) = (Decoder::closed_form(code), Reference::new(code).expect("a code"));
+                for depth in 0..=6 {
+                    let least = draw.below(16);
+                    let symbol = |_| 16 * u8::from(draw.once_in(32)) + (least + draw.below(16 - least)) as u8;
+                    let symbols: Vec<u8> = (0..n).map(symbol).collect();
+                    let (mut ours, mut theirs) = (vec![0; n], vec![0; n]);
+                    let right = reference.decode_soft(depth, &symbols, &mut theirs);
+                    assert_eq!((Ok(c.soft(depth, &symbols, &mut ours)), ours), (right, theirs), "{n} symbols, depth {depth}");
+                }
+            }
+        }
+    }
+}
