@@ -1,3 +1,4 @@
+pub mod Cases
 pub mod Marking
 pub mod Steps
 pub mod Cursors

@@ -10,7 +10,7 @@ keyOf r = r .z * 1024 + r .at
 
 -- the keys of all symbols, in the weakest order
 unfoldable pub rankedKeys : List ℕ → List ℕ
-unfolding keyOf
+unfolding keyOf rank reliabilities
 rankedKeys ss = map keyOf (rank 0 (reliabilities ss))
 
 -- eight places: the keys, and 65535 in those that are left
