@@ -21,6 +21,9 @@ pub struct Tally {
     rows: [Row; 7],
     codes: BTreeSet<(usize, usize, usize)>,
     depths: BTreeSet<usize>,
+    /// Words that are searched at a depth above 0, and those of them where the last weak position is as reliable as the next one.
+    searched: usize,
+    tied: usize,
 }
 
 impl Tally {
@@ -57,12 +60,28 @@ impl Tally {
     fn note_settings(&mut self, call: &Call, outcome: &Outcome) {
         match (&call.request, &outcome.answer) {
             (Request::Encode { code, .. } | Request::DecodeHard { code, .. }, Ok(_)) => self.note(*code, None),
-            (Request::DecodeSoft { code, depth, .. }, Ok(_)) => self.note(*code, Some(*depth)),
-            (Request::OpenTake { take } | Request::ReadTake { take }, Ok(_)) => {
-                self.note(Code::new(take[2].into(), take[3].into(), take[4].into()), Some(take[6].into()))
+            (Request::DecodeSoft { code, depth, symbols }, Ok(_)) => {
+                self.note(*code, Some(*depth));
+                self.note_ties(*depth, symbols);
+            }
+            (Request::OpenTake { take } | Request::ReadTake { take }, Ok(answer)) => {
+                let (code, depth) = (Code::new(take[2].into(), take[3].into(), take[4].into()), take[6].into());
+                self.note(code, Some(depth));
+                if let Answer::Read(totals) = answer {
+                    let words = &take[take.len() - totals.words * code.n..];
+                    words.chunks(code.n).for_each(|word| self.note_ties(depth, word));
+                }
             }
             _ => (),
         }
+    }
+
+    /// Notes whether positions that are equally reliable stand on both sides of the last weak one.
+    fn note_ties(&mut self, depth: usize, symbols: &[u8]) {
+        let mut reliabilities: Vec<u8> = symbols.iter().map(|symbol| symbol % 16).collect();
+        reliabilities.sort_unstable();
+        self.searched += usize::from(depth > 0);
+        self.tied += usize::from(depth > 0 && reliabilities.get(depth - 1) == reliabilities.get(depth));
     }
 
     fn note(&mut self, code: Code, depth: Option<usize>) {
@@ -96,6 +115,7 @@ impl fmt::Display for Tally {
         let pairs: BTreeSet<(usize, usize)> = self.codes.iter().map(|&(m, t, _)| (m, t)).collect();
         let codes: usize = (5..=8).flat_map(|m| (1..=3).map(move |t| (1 << m) - 1 - m * t)).sum();
         write!(f, "\n\nreached: {} of 12 pairs of m and t, {} of {codes} codes, ", pairs.len(), self.codes.len())?;
-        writeln!(f, "{} of 7 depths", self.depths.len())
+        writeln!(f, "{} of 7 depths", self.depths.len())?;
+        writeln!(f, "equals on both sides of the last weak position: {} of {} words searched at depth 1 to 6", self.tied, self.searched)
     }
 }
