@@ -13,15 +13,17 @@ use Rattle.ranking.proofs.Marking.{any-none}
 
 -- ---- the next level
 
--- the same of the first symbols
+-- y is above z, and of the first i symbols none has a reliability between them
 pub record Nearest (z y i : ℕ) (ss : List ℕ) : Type 0 where
   pub above : z < y
   pub most : y ≤ 16
   pub none : (j : ℕ) → j < i → z < getD ss j 0 % 16 → y ≤ getD ss j 0 % 16
 
+-- nothing is passed
 pub nearest-none : (z : ℕ) (ss : List ℕ) → z < 16 → Nearest z 16 0 ss
 nearest-none z ss h = record { above = h; most = omega arith; none = λ j l. absurd (omega arith) }
 
+-- one symbol more: x is its reliability where that is above z
 pub nearest-more : (z y i x r : ℕ) (ss : List ℕ) → Nearest z y i ss → (z < getD ss i 0 % 16 → x ≡ getD ss i 0 % 16) × (getD ss i 0 % 16 ≤ z → x ≡ 16)
     → r ≡ min y x → Nearest z r (i + 1) ss
 nearest-more z y i x r ss n e m =
@@ -56,8 +58,7 @@ next-parts z y x r a b w ss n o m h l e =
         = getD-take w (drop b ss) (i - b) 0 (omega arith) ∙ getD-drop b ss (i - b) 0 ∙ ap (λ (j : ℕ). getD ss j 0) k in
         rw q at (o .none (i - b) (omega (arith, length-take-le w (drop b ss) (omega (arith, length-drop b ss)))) (rw q v))
 
-pub next-one : (z : ℕ) (ss : List ℕ) → z < 16 → Next z (z + 1) ss
-next-one z ss h = record { above = omega arith; most = omega arith; none = λ i l w. omega arith }
+-- ---- levels
 
 unmarked : (y : ℕ) (ss : List ℕ) → ((i : ℕ) → i < length ss → getD ss i 0 % 16 ≡ y → ⊥) → anyOf (marks y ss) ≡ false
 unfolding anyOf marks

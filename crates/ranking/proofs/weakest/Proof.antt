@@ -1,9 +1,7 @@
 -- The keys by levels are the keys in the weakest order. Assumes nothing.
-use Prim.Native.Nat.{min}
 use native.Mathlib.Omega.{arith}
-use mathlib.Core.Path.{_≡_}
 use borrow.Author.Needs.{needs}
-use lib.ListN.{length, length-take}
+use lib.ListN.{length-take}
 use Rattle.ranking.proofs.Orders.{first-weakest}
 use Rattle.ranking.proofs.weakest.Statement.{statement}
 use Rattle.ranking.proofs.weakest.Tie as tie
