@@ -11,8 +11,9 @@ use borrow.Author.Tests.{eq-eqb, ne-eqb}
 use lib.Dec.{eqb}
 use lib.Pow.{pow-mono}
 use lib.Count.{trailingZeros, under}
-use lib.ListN.{length, length-drop, length-take, take-append-drop, getD, drop, take, length-map}
-use lib.Seq.{drop-nil, drop-length, drop-drop, take-all, length-take-le}
+use lib.ListN.{length, length-drop, drop-of-length-le, length-take, take-append-drop, getD, drop, take, length-map}
+use lib.Seq.{drop-length, drop-drop, take-all, length-take-le}
+use Rattle.chase.proofs.ranking.Keys.{map-take}
 use Rattle.ranking.specs.Levels.{marks, anyOf, bitsOf, marked, bitKeys, levelFrom}
 
 -- ---- marks
@@ -37,9 +38,7 @@ marks-drop z (suc i) (s ∷ ss) = marks-drop z i ss
 
 marks-take : (z i : ℕ) (ss : List ℕ) → marks z (take i ss) ≡ take i (marks z ss)
 unfolding marks
-marks-take z zero ss = refl
-marks-take z (suc i) [] = refl
-marks-take z (suc i) (s ∷ ss) = ap (λ (l : List Bool). eqb (s % 16) z ∷ l) (marks-take z i ss)
+marks-take z i ss = map-take (λ (s : ℕ). eqb (s % 16) z) i ss
 
 marks-end : (z i : ℕ) (ss : List ℕ) → i ≡ length ss → drop i (marks z ss) ≡ []
 marks-end z i ss h = rw (h, ← length-marks z ss, drop-length)
@@ -194,15 +193,10 @@ lowest (suc n) (suc d) x k h l w = go (x % 2) refl (λ e. lowest n d (x / 2) (su
 
 -- ---- sixteen after sixteen
 
-drop-past : (i : ℕ) (bs : List Bool) → length bs ≤ i → drop i bs ≡ []
-drop-past i [] h = drop-nil i
-drop-past zero (b ∷ bs) h = absurd (omega arith)
-drop-past (suc i) (b ∷ bs) h = drop-past i bs (omega arith)
-
 -- at the end no key is left
 pub marked-end : (k z i : ℕ) (ss : List ℕ) → length ss ≤ i → marked k (drop i (marks z ss)) ≡ []
 unfolding marked
-marked-end k z i ss h = rw (drop-past i (marks z ss) (omega (arith, length-marks z ss)))
+marked-end k z i ss h = rw (drop-of-length-le (marks z ss) {i = i} (omega (arith, length-marks z ss)))
 
 marked-append : (k : ℕ) (xs ys : List Bool) → marked k (xs ++ ys) ≡ marked k xs ++ marked (k + length xs) ys
 unfolding marked
@@ -228,7 +222,9 @@ level-sixteen z i ss =
     (ap (marked (k + length (take 16 bs))) (drop-drop 16 i (marks z ss)) ∙ elim (decLe 16 (length bs)) [
       | yes h ↦ ap (λ (n : ℕ). marked (k + n) (drop (i + 16) (marks z ss))) (length-take-le 16 bs h)
           ∙ ap (λ (n : ℕ). marked n (drop (i + 16) (marks z ss))) e
-      | no h ↦ (let none : drop (i + 16) (marks z ss) ≡ [] = drop-past (i + 16) (marks z ss) (omega (arith, length-drop i (marks z ss))) in rw none)
+      | no h ↦ (let none : drop (i + 16) (marks z ss) ≡ []
+          = drop-of-length-le (marks z ss) {i = i + 16} (omega (arith, length-drop i (marks z ss))) in
+          rw none)
     ])
 
 -- the sixteen bits from i on, where fewer symbols are read, ..

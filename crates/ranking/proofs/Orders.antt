@@ -4,20 +4,16 @@ use native.Mathlib.Omega.{arith}
 use native.Mathlib.Decide.{decLe}
 use mathlib.Core.Path.{_≡_, refl, ap, ap₂, sym, _∙_}
 use mathlib.Core.Bool.{Bool, true, false, cond}
-use mathlib.Core.List.{List, [], _∷_, _++_, map}
+use mathlib.Core.List.{List, [], _∷_, _++_, map, map-append}
 use borrow.Author.Tests.{eqb-true}
 use lib.Dec.{eqb}
 use lib.ListN.{length, take, drop}
 use lib.Seq.{take-all, take-at, drop-at}
-use Rattle.chase.specs.Soft.{Ranked, reliabilities}
+use Rattle.chase.specs.Soft.{reliabilities}
 use Rattle.chase.proofs.ranking.Keys.{reliability-lt}
 use Rattle.chase.proofs.ranking.Levels.{atLevel, levels, rank-levels}
 use Rattle.ranking.specs.Weakest.{keyOf, rankedKeys, padded, weakestKeys}
 use Rattle.ranking.specs.Levels.{marks, marked, levelKeys}
-
-map-append : (f : Ranked → ℕ) (xs ys : List Ranked) → map f (xs ++ ys) ≡ map f xs ++ map f ys
-map-append f [] ys = refl
-map-append f (x ∷ xs) ys = ap (λ (l : List ℕ). f x ∷ l) (map-append f xs ys)
 
 level-keys : (k at : ℕ) (ss : List ℕ) → map keyOf (atLevel k at (reliabilities ss)) ≡ marked (k * 1024 + at) (marks k ss)
 unfolding reliabilities atLevel marked marks keyOf

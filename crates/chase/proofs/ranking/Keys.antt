@@ -82,7 +82,7 @@ keyOf r = key (r .z) (r .at)
 
 -- ---- what the keys hold
 
-map-take : {A B : Type 0} (f : A → B) (p : ℕ) (xs : List A) → map f (take p xs) ≡ take p (map f xs)
+pub map-take : {A B : Type 0} (f : A → B) (p : ℕ) (xs : List A) → map f (take p xs) ≡ take p (map f xs)
 map-take f zero xs = refl
 map-take f (suc p) [] = refl
 map-take f (suc p) (x ∷ xs) = ap (λ (l : List _). f x ∷ l) (map-take f p xs)
