@@ -18,12 +18,12 @@
 //         receiver::Words::Refused(r) => { .. }
 //     }
 //
-// A call checks its settings and what else it is given, which names a code (`refusal`), and fills that code's tables (`tables`). The hard
-// stage adds up the syndromes S1, S3, S5 (`hard_stage`), finds the positions to flip (`locate`) and only then writes. The soft stage ranks the
-// symbols (by the crate `ranking`; `least_keys`), has the syndromes and the weights of test words without writing them out (`test_words`), locates and weighs one test
-// word after the other (`search`, `weighing`) and only then writes (`soft_stage`). Several words share their tables (`all_words`). What has a
-// `requires` is in private modules, so that this is one crate: to split it would make such functions public. (Modules `hard`, `soft` and
-// `words` would differ only in case from the enums, which is refused.)
+// A call checks its settings and what else it is given, which names a code (`refusal`), and fills that code's tables (`tables`). The hard stage
+// adds up the syndromes S1, S3, S5 (`hard_stage`), finds the positions to flip (`locate`) and only then writes. The soft stage ranks the
+// symbols (by the crate `ranking`; `least_keys`), has the syndromes and the weights of test words without writing them out (`test_words`),
+// locates and weighs one test word after the other (`search`, `weighing`) and only then writes (`soft_stage`). Several words share their tables
+// (`all_words`). What has a `requires` is in private modules, so that this is one crate: to split it would make such functions public. (Modules
+// `hard`, `soft` and `words` would differ only in case from the enums, which is refused.)
 ghost use Prim.Native.Nat.{_+_, _-_, _^_, min};
 ghost use mathlib.Core.Path.{_≡_};
 ghost use mathlib.Core.Bool.{cond};
