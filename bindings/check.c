@@ -1,8 +1,8 @@
 /*
  * Holds the calls of receiver.h to document 01 (docs/01-scope.md), as a program in C meets them: the worked cases of its small code, each
  * refusal that a call can give with its place, the order of the refusals, all fields of an answer and the buffers after a refusal or a
- * lost word, numbers that fill several bytes of the archive's answer, and NULL with length 0. Prints a line for each difference, and last
- * how many checks were made; fails where there is a difference.
+ * lost word, the positions of three flips, numbers that fill several bytes of the archive's answer, and NULL with length 0. Prints a line
+ * for each difference, and last how many checks were made; fails where there is a difference.
  */
 #include "receiver.h"
 
@@ -112,27 +112,35 @@ static size_t numbers(const char *digits, uint8_t *bytes)
 struct bits_answer {
     receiver_refusal refusal;
     int found;
-    unsigned flips;
+    unsigned flips, positions[3];
 };
 
-static const struct bits_answer ENCODED = {{0, 0}, 0, 0}, LOST = {{0, 0}, 0, 0};
+static const struct bits_answer ENCODED = {{0, 0}, 0, 0, {0, 0, 0}}, LOST = {{0, 0}, 0, 0, {0, 0, 0}};
 
-static struct bits_answer found(unsigned flips) { return (struct bits_answer){ACCEPTED, 1, flips}; }
+/* So many flips, and all three places. */
+static struct bits_answer found(unsigned flips, unsigned first, unsigned second, unsigned third)
+{
+    return (struct bits_answer){ACCEPTED, 1, flips, {first, second, third}};
+}
 
-static struct bits_answer bits_refused(unsigned number, uint64_t place) { return (struct bits_answer){{number, place}, 0, 0}; }
+static struct bits_answer bits_refused(unsigned number, uint64_t place)
+{
+    return (struct bits_answer){{number, place}, 0, 0, {0, 0, 0}};
+}
 
 typedef struct bits_answer bits_call(size_t, size_t, size_t, const uint8_t *, size_t, uint8_t *, size_t);
 
 static struct bits_answer encode(size_t m, size_t t, size_t n, const uint8_t *message, size_t length, uint8_t *codeword, size_t room)
 {
-    return (struct bits_answer){receiver_encode(m, t, n, message, length, codeword, room).refusal, 0, 0};
+    return (struct bits_answer){receiver_encode(m, t, n, message, length, codeword, room).refusal, 0, 0, {0, 0, 0}};
 }
 
 static struct bits_answer decode_hard(size_t m, size_t t, size_t n, const uint8_t *bits, size_t length, uint8_t *codeword, size_t room)
 {
     receiver_hard answer = receiver_decode_hard(m, t, n, bits, length, codeword, room);
+    const unsigned *at = answer.positions;
 
-    return (struct bits_answer){answer.refusal, answer.found, answer.flips};
+    return (struct bits_answer){answer.refusal, answer.found, answer.flips, {at[0], at[1], at[2]}};
 }
 
 struct code {
@@ -145,6 +153,7 @@ static void check_bits_answer(struct bits_answer answer, struct bits_answer want
 {
     check_refusal(answer.refusal, wanted.refusal, name, input);
     check(answer.found == wanted.found && answer.flips == wanted.flips, name, input, "found or flips is another");
+    check(memcmp(answer.positions, wanted.positions, sizeof wanted.positions) == 0, name, input, "other positions");
 }
 
 static void check_bits(bits_call *call, const char *name, struct code code, const char *bits, size_t room, struct bits_answer wanted,
@@ -196,15 +205,43 @@ static void check_encode(void)
     check_bits_answer(encode(5, 1, 6, message, 1, NULL, 0), bits_refused(RECEIVER_REFUSED_OUTPUT_LENGTH, 0), name, "codeword NULL");
 }
 
+enum { LONGEST = 255 };
+
+/* Whether the codeword 0 with three wrong bits is found, and their positions, which rise, are told. */
+static int tells(struct code code, unsigned first, unsigned second, unsigned third)
+{
+    uint8_t bits[LONGEST] = {0}, codeword[LONGEST];
+
+    bits[first] = bits[second] = bits[third] = 1;
+    receiver_hard answer = receiver_decode_hard(code.m, code.t, code.n, bits, code.n, codeword, code.n);
+    const unsigned *at = answer.positions;
+    return answer.found && answer.flips == 3 && at[0] == first && at[1] == second && at[2] == third;
+}
+
+static void check_three_flips(void)
+{
+    const struct code full = {5, 3, 31}, longest = {8, 3, LONGEST};
+    unsigned others = 0;
+
+    for (unsigned third = 2; third < full.n; third++)
+        for (unsigned second = 1; second < third; second++)
+            for (unsigned first = 0; first < second; first++)
+                others += !tells(full, first, second, third);
+    check(others == 0, "decode_hard", "all three flips of 31 bits", "other positions");
+    check(tells(longest, 0, 127, 254), "decode_hard", "three flips of 255 bits", "other positions");
+}
+
 static void check_decode_hard(void)
 {
     const char *name = "decode_hard";
 
-    check_bits(decode_hard, name, E, "100000", 6, found(1), "000000");
+    check_bits(decode_hard, name, E, "100000", 6, found(1, 0, 0, 0), "000000");
     check_bits(decode_hard, name, E, "110000", 6, LOST, UNTOUCHED);
-    check_bits(decode_hard, name, E, "101000", 6, found(1), "101001");
-    check_bits(decode_hard, name, E, "101001", 6, found(0), "101001");
-    check_bits(decode_hard, name, (struct code){5, 3, 16}, "0100100000000001", 16, found(3), "0000000000000000");
+    check_bits(decode_hard, name, E, "101000", 6, found(1, 5, 0, 0), "101001");
+    check_bits(decode_hard, name, E, "101001", 6, found(0, 0, 0, 0), "101001");
+    check_bits(decode_hard, name, (struct code){5, 2, 11}, "10000001000", 11, found(2, 0, 7, 0), "00000000000");
+    check_bits(decode_hard, name, (struct code){5, 3, 16}, "0100100000000001", 16, found(3, 1, 4, 15), "0000000000000000");
+    check_three_flips();
     check_bits_refusals(decode_hard, name, "0002200000");
 }
 

@@ -48,10 +48,14 @@ static void hard_stage(uint8_t codeword[N])
         received[i] = codeword[i] ^ (i == 20 || i == 40);
     receiver_hard hard = receiver_decode_hard(M, T, N, received, N, codeword, N);
     accept("decode_hard", hard.refusal);
-    if (hard.found)
-        printf("hard stage: %u flips\n", hard.flips);
-    else
+    if (hard.found) {
+        printf("hard stage: %u flips", hard.flips);
+        for (unsigned i = 0; i < hard.flips; i++)
+            printf("%s %u", i == 0 ? ", at" : " and", hard.positions[i]);
+        putchar('\n');
+    } else {
         puts("hard stage: lost");
+    }
 }
 
 /* Sends a codeword as levels, of which four arrive weak and wrong, more than the hard stage repairs, and one not at all. */

@@ -123,7 +123,7 @@ static inline const char *receiver_refusal_text(unsigned number)
 uint64_t receiver_encode_packed(size_t m, size_t t, size_t n, const uint8_t *message, size_t message_length, uint8_t *codeword,
                                 size_t codeword_length);
 
-/* byte 0: 1 found, 0 lost; byte 1: the flips */
+/* byte 0: 1 found, 0 lost; byte 1: the flips; bytes 2-3, 4-5 and 6-7: their positions, rising, and 0 in the places that are left */
 uint64_t receiver_decode_hard_packed(size_t m, size_t t, size_t n, const uint8_t *bits, size_t bits_length, uint8_t *codeword,
                                      size_t codeword_length);
 
@@ -183,14 +183,16 @@ static inline receiver_encoded receiver_encode(size_t m, size_t t, size_t n, con
 
 /* ---- the hard stage */
 
+/* All fields of a lost word are 0. Position 0 and an unused place look alike: look at the flips first. */
 typedef struct receiver_hard {
     receiver_refusal refusal;
     int found;              /* 1 found, 0 lost */
-    unsigned flips;         /* in how many positions the codeword differs from the bits; 0 where lost */
+    unsigned flips;         /* in how many positions the codeword differs from the bits */
+    unsigned positions[3];  /* where, rising; unused places are 0 */
 } receiver_hard;
 
 /*
- * Writes the codeword that differs from a word in at most t positions, where there is one.
+ * Writes the codeword that differs from a word in at most t positions, where there is one, and tells these positions.
  * Takes n bits; writes n bits.
  * Refuses with the first of 1, 2, 3, 6, 7, 8 that applies. Lost or refused, `codeword` is as it was.
  */
@@ -202,6 +204,9 @@ static inline receiver_hard receiver_decode_hard(size_t m, size_t t, size_t n, c
     answer.refusal = receiver_refusal_(packed);
     answer.found = receiver_bytes_(packed, 0, 1) == 1;
     answer.flips = receiver_bytes_(packed, 1, 1);
+    answer.positions[0] = receiver_bytes_(packed, 2, 2);
+    answer.positions[1] = receiver_bytes_(packed, 4, 2);
+    answer.positions[2] = receiver_bytes_(packed, 6, 2);
     return answer;
 }
 
