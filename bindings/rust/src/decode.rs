@@ -9,14 +9,36 @@ use core::fmt;
 pub enum Hard {
     /// No codeword lies within t flips; the buffer is as it was.
     Lost,
-    /// The codeword is in the buffer.
-    Found {
-        /// In how many positions it differs from the bits.
-        flips: usize,
-    },
+    /// The codeword is in the buffer; it differs from the bits in these positions.
+    Found(Flips),
 }
 
-/// Writes the codeword within t flips of n bits, where there is one.
+/// The positions that the hard stage flipped, at most three.
+#[derive(Clone, Copy, Debug, PartialEq, Eq)]
+pub struct Flips {
+    count: usize,
+    positions: [usize; 3],
+}
+
+impl Flips {
+    /// How many there are.
+    pub const fn count(&self) -> usize {
+        self.count
+    }
+
+    /// The positions, rising.
+    pub fn positions(&self) -> &[usize] {
+        &self.positions[..self.count]
+    }
+
+    /// The flips that the archive tells. There are no more than places, whatever the number says.
+    fn told(number: u64) -> Flips {
+        let count = usize::from((number >> 8) as u8).min(3);
+        Flips { count, positions: [16, 32, 48].map(|shift| (number >> shift) as u16 as usize) }
+    }
+}
+
+/// Writes the codeword within t flips of n bits, where there is one, and tells the positions that were flipped.
 ///
 /// Refuses with the first of 6, 7, 8 that applies.
 ///
@@ -28,7 +50,10 @@ pub enum Hard {
 /// let mut codeword = [7; 6];
 /// assert_eq!(decode_hard(code, &[1, 1, 0, 0, 0, 0], &mut codeword)?, Hard::Lost);
 /// assert_eq!(codeword, [7; 6]);
-/// assert_eq!(decode_hard(code, &[1, 0, 1, 0, 0, 0], &mut codeword)?, Hard::Found { flips: 1 });
+/// match decode_hard(code, &[1, 0, 1, 0, 0, 0], &mut codeword)? {
+///     Hard::Found(flips) => assert_eq!(flips.positions(), [5]),
+///     Hard::Lost => unreachable!(),
+/// }
 /// assert_eq!(codeword, [1, 0, 1, 0, 0, 1]);
 /// # Ok(())
 /// # }
@@ -39,7 +64,7 @@ pub fn decode_hard(code: Code, bits: &[u8], codeword: &mut [u8]) -> Result<Hard,
     let number = unsafe { raw::receiver_decode_hard_packed(code.m(), code.t(), code.n(), bits.as_ptr(), bits.len(), written, room) };
     answered(number).map(|number| match number as u8 {
         0 => Hard::Lost,
-        _ => Hard::Found { flips: (number >> 8) as usize },
+        _ => Hard::Found(Flips::told(number)),
     })
 }
 
@@ -160,4 +185,28 @@ pub fn decode_soft(code: Code, depth: usize, symbols: &[u8], codeword: &mut [u8]
             _ => Soft::Sure(found),
         }
     })
+}
+
+#[cfg(test)]
+mod tests {
+    use super::*;
+
+    #[test]
+    fn count_and_places() {
+        let (none, first) = (Flips::told(1), Flips::told(1 | 1 << 8));
+        assert_eq!((none.count(), none.positions()), (0, &[][..]));
+        assert_eq!((first.count(), first.positions()), (1, &[0][..]));
+        assert_ne!(none, first);
+        let three = Flips::told(1 | 3 << 8 | 2 << 16 | 0x0102 << 32 | 0xfffe << 48);
+        assert_eq!((three.count(), three.positions()), (3, &[2, 0x0102, 0xfffe][..]));
+    }
+
+    /// Whatever count the archive tells, the places are three.
+    #[test]
+    fn more_flips_than_places() {
+        for count in 0..=255 {
+            let flips = Flips::told(1 | count << 8);
+            assert_eq!((flips.count(), flips.positions().len()), (count.min(3) as usize, count.min(3) as usize));
+        }
+    }
 }

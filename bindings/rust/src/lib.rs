@@ -32,7 +32,10 @@
 //! received[7] ^= 1;
 //! received[40] ^= 1;
 //! let mut codeword = [0; 63];
-//! assert_eq!(decode_hard(code, &received, &mut codeword)?, Hard::Found { flips: 2 });
+//! match decode_hard(code, &received, &mut codeword)? {
+//!     Hard::Found(flips) => assert_eq!(flips.positions(), [7, 40]),
+//!     Hard::Lost => unreachable!(),
+//! }
 //! assert_eq!(codeword, sent);
 //! # Ok(())
 //! # }
@@ -55,7 +58,7 @@ mod refusal;
 mod take;
 
 pub use code::{encode, Code};
-pub use decode::{decode_hard, decode_soft, Found, Hard, Mark, Soft};
+pub use decode::{decode_hard, decode_soft, Flips, Found, Hard, Mark, Soft};
 pub use ladder::{quantise, Ladder};
 pub use refusal::{Refusal, RefusalKind};
 #[cfg(feature = "alloc")]

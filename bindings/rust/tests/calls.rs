@@ -101,13 +101,51 @@ fn encode_case() {
     assert_eq!(lent(6, |codeword| encode(code_e(), &[1], codeword)), (Ok(()), digits("101001")));
 }
 
+/// The answer of the hard stage, with the positions that were flipped where it found a codeword, and the buffer after it.
+fn hard(code: Code, bits: &[u8]) -> (Answer<Option<Vec<usize>>>, Vec<u8>) {
+    let flipped = |answer| match answer {
+        Hard::Lost => None,
+        Hard::Found(flips) => {
+            assert_eq!(flips.count(), flips.positions().len());
+            Some(flips.positions().to_vec())
+        }
+    };
+    lent(code.n(), |codeword| decode_hard(code, bits, codeword).map(flipped))
+}
+
 #[test]
 fn hard_cases() {
-    let hard = |bits| lent(6, |codeword| decode_hard(code_e(), &digits(bits), codeword));
-    assert_eq!(hard("100000"), (Ok(Hard::Found { flips: 1 }), digits("000000")));
-    assert_eq!(hard("110000"), (Ok(Hard::Lost), vec![BEFORE; 6]));
-    assert_eq!(hard("101000"), (Ok(Hard::Found { flips: 1 }), digits("101001")));
-    assert_eq!(hard("101001"), (Ok(Hard::Found { flips: 0 }), digits("101001")));
+    let hard = |bits| hard(code_e(), &digits(bits));
+    assert_eq!(hard("100000"), (Ok(Some(vec![0])), digits("000000")));
+    assert_eq!(hard("110000"), (Ok(None), vec![BEFORE; 6]));
+    assert_eq!(hard("101000"), (Ok(Some(vec![5])), digits("101001")));
+    assert_eq!(hard("101001"), (Ok(Some(vec![])), digits("101001")));
+}
+
+/// At most three wrong bits in the codeword 0: all such words of 31 bits, and one of 255.
+#[test]
+fn hard_positions() {
+    let told = |m, n: usize, wrong: &[usize]| {
+        let bits: Vec<u8> = (0..n).map(|position| u8::from(wrong.contains(&position))).collect();
+        assert_eq!(hard(Code::new(m, 3, n).unwrap(), &bits), (Ok(Some(wrong.to_vec())), vec![0; n]));
+    };
+    told(5, 31, &[]);
+    for i in 0..31 {
+        told(5, 31, &[i]);
+        for j in 0..i {
+            told(5, 31, &[j, i]);
+            (0..j).for_each(|k| told(5, 31, &[k, j, i]));
+        }
+    }
+    told(8, 255, &[0, 127, 254]);
+}
+
+/// Position 0 is told apart from no position.
+#[test]
+fn hard_position_0() {
+    let answer = |bits| decode_hard(code_e(), &digits(bits), &mut [0; 6]).unwrap();
+    assert_ne!(answer("100000"), answer("000000"));
+    assert_eq!(answer("101001"), answer("000000"));
 }
 
 /// A call that takes bits and writes a codeword, where it or the code must be refused. `word` are bits of the right length for (5, 1, 10),
