@@ -18,6 +18,12 @@
 /* A code and its tables. */
 struct code;
 
+/* What the hard stage answers: how many positions are flipped, -1 for a lost word, and which, rising; unused places are 0. */
+struct flips {
+    int32_t count;
+    uint32_t positions[3];
+};
+
 /* What the soft stage answers. */
 enum { LOST, FAIR, SURE };
 
@@ -37,13 +43,12 @@ void core_free_code(struct code *);
 
 void core_encode(const struct code *, const uint8_t *message, uint8_t *codeword);
 
-/* The number of flips, and -1 for a lost word; so also core_textbook_hard. */
-int32_t core_decode_hard(const struct code *, const uint8_t *bits, uint8_t *codeword);
+struct flips core_decode_hard(const struct code *, const uint8_t *bits, uint8_t *codeword);
 struct answer core_decode_soft(const struct code *, uint32_t depth, const uint8_t *symbols, uint8_t *codeword);
 struct totals core_read_words(const struct code *, uint32_t depth, size_t words, const uint8_t *symbols, uint8_t *messages,
                                uint8_t *marks);
 
-int32_t core_textbook_hard(const struct code *, const uint8_t *bits, uint8_t *codeword);
+struct flips core_textbook_hard(const struct code *, const uint8_t *bits, uint8_t *codeword);
 struct answer core_textbook_soft(const struct code *, uint32_t depth, const uint8_t *symbols, uint8_t *codeword);
 struct totals core_textbook_words(const struct code *, uint32_t depth, size_t words, const uint8_t *symbols, uint8_t *messages,
                                    uint8_t *marks);

@@ -26,11 +26,11 @@ pub struct Refusal {
     pub place: usize,
 }
 
-/// What the hard stage answers.
+/// What the hard stage answers. The flipped positions stand in rising order; unused places are 0.
 #[derive(Clone, Copy, Debug, PartialEq, Eq)]
 pub enum Hard {
     Lost,
-    Found { flips: usize },
+    Found { flips: usize, positions: [usize; 3] },
 }
 
 /// The numbers of a codeword that the soft stage found: L, the margin, q, j and the tries.

@@ -16,9 +16,10 @@ pub fn decode_hard(code: Code, bits: &[u8], codeword: &mut [u8]) -> Result<Hard,
     let Code { m, t, n } = code;
     let (written, room) = (codeword.as_mut_ptr(), codeword.len());
     let number = unsafe { raw::receiver_decode_hard_packed(m, t, n, bits.as_ptr(), bits.len(), written, room) };
-    match (bytes(number, 0, 1), bytes(number, 1, 1), bytes(number, 2, 6)) {
-        (0, 0, 0) => Ok(Hard::Lost),
-        (1, flips, 0) => Ok(Hard::Found { flips }),
+    let (flips, positions) = (bytes(number, 1, 1), [bytes(number, 2, 2), bytes(number, 4, 2), bytes(number, 6, 2)]);
+    match bytes(number, 0, 1) {
+        0 if (flips, positions) == (0, [0; 3]) => Ok(Hard::Lost),
+        1 => Ok(Hard::Found { flips, positions }),
         _ => Err(refusal(number)),
     }
 }

@@ -9,6 +9,12 @@ struct Tables {
 }
 
 #[repr(C)]
+struct Flips {
+    count: i32,
+    positions: [u32; 3],
+}
+
+#[repr(C)]
 struct Answer {
     mark: u32,
     distance: u32,
@@ -28,10 +34,10 @@ extern "C" {
     fn core_new_code(m: u32, t: u32, n: u32) -> *mut Tables;
     fn core_free_code(tables: *mut Tables);
     fn core_encode(tables: *const Tables, message: *const u8, codeword: *mut u8);
-    fn core_decode_hard(tables: *const Tables, bits: *const u8, codeword: *mut u8) -> i32;
+    fn core_decode_hard(tables: *const Tables, bits: *const u8, codeword: *mut u8) -> Flips;
     fn core_decode_soft(tables: *const Tables, depth: u32, symbols: *const u8, codeword: *mut u8) -> Answer;
     fn core_read_words(tables: *const Tables, depth: u32, words: usize, symbols: *const u8, messages: *mut u8, marks: *mut u8) -> Counts;
-    fn core_textbook_hard(tables: *const Tables, bits: *const u8, codeword: *mut u8) -> i32;
+    fn core_textbook_hard(tables: *const Tables, bits: *const u8, codeword: *mut u8) -> Flips;
     fn core_textbook_soft(tables: *const Tables, depth: u32, symbols: *const u8, codeword: *mut u8) -> Answer;
     fn core_textbook_words(
         tables: *const Tables,
@@ -47,7 +53,7 @@ extern "C" {
 
 /// The functions of one decoder.
 struct Calls {
-    hard: unsafe extern "C" fn(*const Tables, *const u8, *mut u8) -> i32,
+    hard: unsafe extern "C" fn(*const Tables, *const u8, *mut u8) -> Flips,
     soft: unsafe extern "C" fn(*const Tables, u32, *const u8, *mut u8) -> Answer,
     words: unsafe extern "C" fn(*const Tables, u32, usize, *const u8, *mut u8, *mut u8) -> Counts,
 }
@@ -86,9 +92,10 @@ impl Decoder {
 
     pub fn hard(&self, bits: &[u8], codeword: &mut [u8]) -> Hard {
         assert!(bits.len() == self.code.n && codeword.len() == self.code.n);
-        match unsafe { (self.calls.hard)(self.tables, bits.as_ptr(), codeword.as_mut_ptr()) } {
+        let flips = unsafe { (self.calls.hard)(self.tables, bits.as_ptr(), codeword.as_mut_ptr()) };
+        match flips.count {
             -1 => Hard::Lost,
-            flips => Hard::Found { flips: flips as usize },
+            count => Hard::Found { flips: count as usize, positions: flips.positions.map(|position| position as usize) },
         }
     }
 
@@ -146,22 +153,43 @@ mod tests {
     use outside::draw::Draw;
     use outside::reference::{Code, Reference};
 
+    /// The codes of every length.
+    fn codes() -> impl Iterator<Item = Code> {
+        let pairs = (5..=8).flat_map(|m| (1..=3).map(move |t| (m, t)));
+        pairs.flat_map(|(m, t)| (m * t + 1..1 << m).map(move |n| Code::new(m, t, n)))
+    }
+
+    /// Bits of every length: the codeword 0 with up to t + 1 wrong bits.
+    #[test]
+    fn every_length_hard() {
+        let mut draw = Draw::new(1);
+        for code in codes() {
+            let reference = Reference::new(code).expect("a code");
+            for wrong in 0..=code.t + 1 {
+                let (mut bits, mut theirs) = (vec![0; code.n], vec![0; code.n]);
+                (0..wrong).for_each(|_| bits[draw.below(code.n)] ^= 1);
+                let right = reference.decode_hard(&bits, &mut theirs);
+                for c in [Decoder::closed_form(code), Decoder::textbook(code)] {
+                    let mut ours = vec![0; code.n];
+                    assert_eq!((Ok(c.hard(&bits, &mut ours)), &ours), (right, &theirs), "{code:?}, {bits:?}");
+                }
+            }
+        }
+    }
+
     /// Words of every length: the codeword 0 with some wrong bits, and reliabilities from some level on.
     #[test]
     fn every_length() {
         let mut draw = Draw::new(1);
-        for (m, t) in (5..=8).flat_map(|m| (1..=3).map(move |t| (m, t))) {
-            for n in m * t + 1..1 << m {
-                let code = Code::new(m, t, n);
-                let (c, reference) = (Decoder::closed_form(code), Reference::new(code).expect("a code"));
-                for depth in 0..=6 {
-                    let least = draw.below(16);
-                    let symbol = |_| 16 * u8::from(draw.once_in(32)) + (least + draw.below(16 - least)) as u8;
-                    let symbols: Vec<u8> = (0..n).map(symbol).collect();
-                    let (mut ours, mut theirs) = (vec![0; n], vec![0; n]);
-                    let right = reference.decode_soft(depth, &symbols, &mut theirs);
-                    assert_eq!((Ok(c.soft(depth, &symbols, &mut ours)), ours), (right, theirs), "{n} symbols, depth {depth}");
-                }
+        for code in codes() {
+            let (c, reference) = (Decoder::closed_form(code), Reference::new(code).expect("a code"));
+            for depth in 0..=6 {
+                let least = draw.below(16);
+                let symbol = |_| 16 * u8::from(draw.once_in(32)) + (least + draw.below(16 - least)) as u8;
+                let symbols: Vec<u8> = (0..code.n).map(symbol).collect();
+                let (mut ours, mut theirs) = (vec![0; code.n], vec![0; code.n]);
+                let right = reference.decode_soft(depth, &symbols, &mut theirs);
+                assert_eq!((Ok(c.soft(depth, &symbols, &mut ours)), ours), (right, theirs), "{code:?}, depth {depth}");
             }
         }
     }

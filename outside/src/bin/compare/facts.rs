@@ -54,9 +54,13 @@ fn answer_holds(call: &Call, outcome: &Outcome, sent: Option<&[u8]>) -> Fact {
 }
 
 fn hard_holds(code: Code, bits: &[u8], answer: Hard, written: &[u8], sent: Option<&[u8]>) -> Fact {
-    if let Hard::Found { flips } = answer {
+    if let Hard::Found { flips, positions } = answer {
         fact("what is found is a codeword", is_codeword(code, written))?;
         fact("the flips are those made, at most t", flips == differences(written, bits).count() && flips <= code.t)?;
+        let (flipped, unused) = positions.split_at(flips);
+        fact("the positions are those flipped", flipped.iter().all(|&position| written[position] != bits[position]))?;
+        fact("the positions rise", flipped.windows(2).all(|pair| pair[0] < pair[1]))?;
+        fact("unused places are 0", unused.iter().all(|&place| place == 0))?;
     }
     match sent {
         Some(sent) if differences(sent, bits).count() <= code.t => fact("a sent word within t flips is found", written == sent),

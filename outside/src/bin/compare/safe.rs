@@ -12,7 +12,11 @@ pub fn decode_hard(code: Code, bits: &[u8], codeword: &mut [u8]) -> Result<Hard,
     let answer = bch_receiver::decode_hard(named(code)?, bits, codeword).map_err(refusal)?;
     Ok(match answer {
         bch_receiver::Hard::Lost => Hard::Lost,
-        bch_receiver::Hard::Found(flips) => Hard::Found { flips: flips.count() },
+        bch_receiver::Hard::Found(flips) => {
+            let mut positions = [0; 3];
+            positions[..flips.positions().len()].copy_from_slice(flips.positions());
+            Hard::Found { flips: flips.count(), positions }
+        }
     })
 }
 

@@ -24,6 +24,9 @@ pub struct Tally {
     /// Words that are searched at a depth above 0, and those of them where the last weak position is as reliable as the next one.
     searched: usize,
     tied: usize,
+    /// Words in which the hard stage flips so many positions, and those of them where position 0 is one.
+    flips: [usize; 4],
+    flips_first: usize,
 }
 
 impl Tally {
@@ -40,7 +43,13 @@ impl Tally {
             Ok(Answer::Done) => row.words += usize::from(matches!(call.request, Request::Encode { .. })),
             Ok(Answer::Hard(answer)) => {
                 row.words += 1;
-                row.lost += usize::from(*answer == Hard::Lost);
+                match *answer {
+                    Hard::Lost => row.lost += 1,
+                    Hard::Found { flips, positions } => {
+                        self.flips[flips] += 1;
+                        self.flips_first += usize::from(flips > 0 && positions[0] == 0);
+                    }
+                }
             }
             Ok(Answer::Soft(answer)) => {
                 row.words += 1;
@@ -116,6 +125,9 @@ impl fmt::Display for Tally {
         let codes: usize = (5..=8).flat_map(|m| (1..=3).map(move |t| (1 << m) - 1 - m * t)).sum();
         write!(f, "\n\nreached: {} of 12 pairs of m and t, {} of {codes} codes, ", pairs.len(), self.codes.len())?;
         writeln!(f, "{} of 7 depths", self.depths.len())?;
-        writeln!(f, "equals on both sides of the last weak position: {} of {} words searched at depth 1 to 6", self.tied, self.searched)
+        writeln!(f, "equals on both sides of the last weak position: {} of {} words searched at depth 1 to 6", self.tied, self.searched)?;
+        let [none, one, two, three] = self.flips;
+        write!(f, "words that the hard stage finds by 0 to 3 flips: {none}, {one}, {two}, {three}; ")?;
+        writeln!(f, "position 0 is flipped in {}", self.flips_first)
     }
 }

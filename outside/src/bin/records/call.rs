@@ -66,7 +66,7 @@ fn encode(code: Code, message: &[u8], room: usize) -> String {
 fn hard(code: Code, bits: &[u8], room: usize) -> String {
     let mut codeword = vec![UNTOUCHED; room];
     let answer = match reference::decode_hard(code, bits, &mut codeword) {
-        Ok(Hard::Found { flips }) => format!("found {flips}"),
+        Ok(Hard::Found { flips, .. }) => format!("found {flips}"),
         Ok(Hard::Lost) => "lost".to_string(),
         Err(refusal) => refused(refusal),
     };
