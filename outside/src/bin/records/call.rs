@@ -1,6 +1,6 @@
 //! A call: its record, and the answer that the second implementation gives.
 
-use crate::text::{found, hex, hex_floats, name, refused, totals};
+use crate::text::{flips, found, hex, hex_floats, name, refused, totals};
 use outside::reference::{self, Code, Hard, Refusal, Soft};
 
 /// What every byte of a lent buffer is before the call.
@@ -66,9 +66,9 @@ fn encode(code: Code, message: &[u8], room: usize) -> String {
 fn hard(code: Code, bits: &[u8], room: usize) -> String {
     let mut codeword = vec![UNTOUCHED; room];
     let answer = match reference::decode_hard(code, bits, &mut codeword) {
-        Ok(Hard::Found { flips, .. }) => format!("found {flips}"),
-        Ok(Hard::Lost) => "lost".to_string(),
-        Err(refusal) => refused(refusal),
+        Ok(Hard::Found { flips: count, positions }) => format!("found {}", flips(count, positions)),
+        Ok(Hard::Lost) => format!("lost {}", flips(0, [0; 3])),
+        Err(refusal) => format!("{} {}", refused(refusal), flips(0, [0; 3])),
     };
     format!("{answer} {}", hex(&codeword))
 }
@@ -133,7 +133,11 @@ mod tests {
     fn words() {
         assert_eq!(lines(Call::Encode { code: E, message: &[1], room: 6 }), pair("encode 5 1 6 01 6", "written 010001000001"));
         assert_eq!(lines(Call::Encode { code: E, message: &[], room: 2 }), pair("encode 5 1 6 - 2", "refused 6 0 0707"));
-        assert_eq!(lines(Call::Hard { code: E, bits: &[0; 6], room: 0 }), pair("hard 5 1 6 000000000000 0", "refused 7 0 -"));
+        assert_eq!(
+            lines(Call::Hard { code: E, bits: &[1, 0, 1, 0, 0, 0], room: 6 }),
+            pair("hard 5 1 6 010001000000 6", "found 1 5 0 0 010001000001")
+        );
+        assert_eq!(lines(Call::Hard { code: E, bits: &[0; 6], room: 0 }), pair("hard 5 1 6 000000000000 0", "refused 7 0 0 0 0 0 -"));
         assert_eq!(
             lines(Call::Soft { code: E, depth: 2, symbols: &[17, 17, 5, 5, 5, 5], room: 6 }),
             pair("soft 5 1 6 2 111105050505 6", "fair 2 -1 2 1 4 000000000000")

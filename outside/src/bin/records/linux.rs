@@ -1,6 +1,6 @@
 //! The answers of an outside decoder, Linux 6.1's lib/bch.c. A line of its file is `m t n received decoded`, with position 0 first, and
-//! `lost` for `decoded` where Linux found no codeword. The answers are these words; that the flips are the positions that differ, and that
-//! a lost word leaves the buffer's bytes, is document 01's.
+//! `lost` for `decoded` where Linux found no codeword. The answers are these words, with the positions in which the two differ; that these
+//! are the flips, and that a lost word leaves the buffer's bytes, is document 01's.
 
 use crate::call::{Call, UNTOUCHED};
 use crate::sheet::Sheet;
@@ -53,10 +53,11 @@ fn add_word(sheet: &mut Sheet, line: &Line) {
     let code @ Code { m, t, n } = line.code;
     let hard = Call::Hard { code, bits: &line.received, room: n };
     match &line.decoded {
-        None => sheet.known(hard, &format!("lost {}", hex(&vec![UNTOUCHED; n]))),
+        None => sheet.known(hard, &format!("lost 0 0 0 0 {}", hex(&vec![UNTOUCHED; n]))),
         Some(codeword) => {
-            let flips = differences(codeword, &line.received).count();
-            sheet.known(hard, &format!("found {flips} {}", hex(codeword)));
+            let positions: Vec<usize> = differences(codeword, &line.received).collect();
+            let place = |i| positions.get(i).copied().unwrap_or(0);
+            sheet.known(hard, &format!("found {} {} {} {} {}", positions.len(), place(0), place(1), place(2), hex(codeword)));
             sheet.known(Call::Encode { code, message: &codeword[m * t..], room: n }, &format!("written {}", hex(codeword)));
         }
     }

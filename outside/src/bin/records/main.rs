@@ -6,7 +6,7 @@
 //! line that begins with `#` is a heading, in both files.
 //!
 //!     encode M T N MESSAGE ROOM         written CODEWORD
-//!     hard M T N BITS ROOM              found FLIPS CODEWORD | lost CODEWORD
+//!     hard M T N BITS ROOM              found|lost FLIPS POSITION POSITION POSITION CODEWORD
 //!     soft M T N DEPTH SYMBOLS ROOM     sure|fair DISTANCE MARGIN FLIPS PLACE TRIES CODEWORD | lost TRIES CODEWORD
 //!     totals                            totals WORDS SURE FAIR LOST TRIES, of the soft records since the last such record
 //!     ladder EDGES                      ladder
@@ -17,7 +17,7 @@
 //!     list TAKE                         what takelist prints
 //!     weights M T N                     weights WEIGHT:COUNT .., of all codewords
 //!
-//! Or `refused NUMBER PLACE` and the buffers.
+//! Or `refused NUMBER PLACE` and the buffers; for `hard` the flips and the positions, all 0, stand before the buffer.
 //!
 //! No answer comes from the receiver. Those in `published`, `linux` and `worked` are numbers that others have printed; the rest is answered
 //! by the second implementation of document 01, which is held to all that is known besides.

@@ -23,6 +23,12 @@ pub fn refused(refusal: Refusal) -> String {
     format!("refused {} {}", refusal.number, refusal.place)
 }
 
+/// How many positions are flipped, and the three places.
+pub fn flips(count: usize, positions: [usize; 3]) -> String {
+    let [first, second, third] = positions;
+    format!("{count} {first} {second} {third}")
+}
+
 pub fn found(found: Found) -> String {
     format!("{} {} {} {} {}", found.distance, found.margin, found.flips, found.place, found.tries)
 }

@@ -59,9 +59,9 @@ pub fn add(sheet: &mut Sheet) {
     sheet.part("the worked cases of document 01");
     sheet.heading("case 1");
     sheet.known(Call::Encode { code: E, message: &[1], room: 6 }, "written 010001000001");
-    add_hard(sheet, "case 2", [1, 0, 0, 0, 0, 0], "found 1 000000000000");
-    add_hard(sheet, "case 3", [1, 1, 0, 0, 0, 0], "lost 070707070707");
-    add_hard(sheet, "case 4", [1, 0, 1, 0, 0, 0], "found 1 010001000001");
+    add_hard(sheet, "case 2", [1, 0, 0, 0, 0, 0], "found 1 0 0 0 000000000000");
+    add_hard(sheet, "case 3", [1, 1, 0, 0, 0, 0], "lost 0 0 0 0 070707070707");
+    add_hard(sheet, "case 4", [1, 0, 1, 0, 0, 0], "found 1 5 0 0 010001000001");
     for case in &SOFT_CASES {
         sheet.heading(case.name);
         sheet.known(Call::Soft { code: E, depth: case.depth, symbols: &case.symbols, room: 6 }, case.answer);
