@@ -3,12 +3,13 @@
 -- (The calls on a take stand with it, in `Take`.)
 use Prim.Native.Nat.{ℕ}
 use mathlib.Core.Logic.{_⊎_, inl, inr}
-use mathlib.Core.List.{List}
+use mathlib.Core.List.{List, []}
 use mathlib.Core.Option.{Option, none, some}
 use lib.Ieee.{Float}
+use lib.ListN.{length}
 use Rattle.bch.specs.Code.{Code}
 use Rattle.bch.specs.Encode.{encoded}
-use Rattle.bch.specs.Hard.{hardFlips, hardWritten}
+use Rattle.bch.specs.Hard.{Repair, hardStage, threePlaces, hardWritten}
 use Rattle.chase.specs.Soft.{Answer, softStage, softWritten}
 use Rattle.take_format.specs.Refusal.{Refusal, encodeRefusal, hardRefusal, softRefusal, wordsRefusal}
 use Rattle.take_format.specs.Batch.{answersTo, messagesOf, marksOf, Totals, totalsOf}
@@ -31,11 +32,34 @@ unfoldable pub encodeBuffer : Code → List ℕ → List ℕ → List ℕ
 unfolding unlessRefused
 encodeBuffer c message codeword = unlessRefused (encodeRefusal c message codeword) codeword (encoded c message)
 
--- ---- the hard stage answers a refusal, or none for a word that is lost, or the number of flips
+-- ---- the hard stage answers a record: which case it is, how many positions are flipped, and in three places which, unused ones 0
 
-unfoldable pub hardAnswer : Code → List ℕ → List ℕ → Refusal ⊎ Option ℕ
-unfolding answered
-hardAnswer c bits codeword = answered (hardRefusal c bits codeword) (hardFlips c bits)
+-- a refusal, a word that is lost, or a codeword found
+pub data HardCase : Type 0 where
+  refused : Refusal → HardCase
+  lost : HardCase
+  found : HardCase
+
+pub record HardAnswer : Type 0 where
+  pub case : HardCase
+  pub count : ℕ
+  pub places : List ℕ
+
+-- with these positions flipped
+unfoldable pub flippedIn : HardCase → List ℕ → HardAnswer
+unfolding threePlaces
+flippedIn case P = record { case = case; count = length P; places = threePlaces P }
+
+-- a refusal and a lost word flip none
+unfoldable pub hardRecord : Refusal ⊎ Option Repair → HardAnswer
+unfolding flippedIn
+hardRecord (inl r) = flippedIn (refused r) []
+hardRecord (inr none) = flippedIn lost []
+hardRecord (inr (some r)) = flippedIn found (r .flipped)
+
+unfoldable pub hardAnswer : Code → List ℕ → List ℕ → HardAnswer
+unfolding answered hardRecord
+hardAnswer c bits codeword = hardRecord (answered (hardRefusal c bits codeword) (hardStage c bits))
 
 -- the codeword buffer then holds the codeword
 unfoldable pub hardBuffer : Code → List ℕ → List ℕ → List ℕ

@@ -8,13 +8,13 @@ use lib.Bits.{bitXor}
 use lib.ListN.{length}
 use Rattle.galois.proofs.Primitive.{Primitive}
 use Rattle.galois.proofs.FieldOf.{field, same}
-use Rattle.bch.specs.Words.{flips}
+use Rattle.bch.specs.Words.{flips, differences}
 use Rattle.bch.specs.Code.{Code, Codeword, syndrome, designDistance}
 use Rattle.bch.proofs.codes.Settings.{Lawful, primitive-of}
 use Rattle.bch.proofs.codes.SyndromeLaws.{passes→}
 use Rattle.bch.proofs.algebra.Unique.{distance}
 use Rattle.bch.proofs.codes.Counting.{flips-zero}
-use Rattle.bch.proofs.codes.Positions.{differences, length-differences, rising-differences, sumAt, sum-differences, locators, length-locators}
+use Rattle.bch.proofs.codes.Positions.{length-differences, rising-differences, sumAt, sum-differences, locators, length-locators}
 use Rattle.bch.proofs.codes.Positions.{errors-locators, power1-locators, power3-locators, power5-locators}
 
 module _ (c : Code) (isCode : Lawful c) where

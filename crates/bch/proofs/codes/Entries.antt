@@ -1,10 +1,16 @@
 -- Lists whose entries are all below a bound, as bits, symbols and positions are: their parts, joins and single entries.
 -- Assumes nothing.
-use Prim.Native.Nat.{ℕ, zero, suc, _<_}
+use Prim.Native.Nat.{ℕ, zero, suc, _≤_, _<_}
 use native.Mathlib.Omega.{arith}
 use mathlib.Core.List.{List, [], _∷_, _++_}
 use lib.ListN.{length, getD, set, take, drop, replicate}
 use Rattle.bch.specs.Words.{Below}
+
+-- a larger bound
+pub below-wider : (n k : ℕ) (xs : List ℕ) → n ≤ k → Below n xs → Below k xs
+unfolding Below
+below-wider n k [] l h = tt
+below-wider n k (x ∷ xs) l h = (omega (arith, h .0), below-wider n k xs l (h .1))
 
 -- a joined list
 pub below-append : (n : ℕ) (xs ys : List ℕ) → Below n xs → Below n ys → Below n (xs ++ ys)

@@ -13,9 +13,10 @@ use lib.Dec.{eqb}
 use lib.ListN.{length}
 use Rattle.bch.specs.Code.{Code, Codeword, wordLength, isCodeword}
 use Rattle.bch.specs.Hard.{wordsAt, wordsWithin, Repair, repaired, hardStage}
-use Rattle.bch.specs.Words.{Below, Bits, flips}
+use Rattle.bch.specs.Words.{Below, Bits, flips, flippedAt, differences}
 use Rattle.bch.proofs.codes.Trials.{mapped, mapping, first-some, first-none}
 use Rattle.bch.proofs.codes.Settings.{Lawful}
+use Rattle.bch.proofs.codes.Positions.{Rising, length-differences, rising-differences, flipped-differences}
 use Rattle.bch.proofs.codes.Distance.{codewords-far}
 use Rattle.bch.proofs.codes.Counting.{Compared, alike, unlike, compared, differ, differ-same, flips-same, flips-zero, flips-sym, flips-triangle}
 
@@ -145,26 +146,37 @@ module _ (code : Code) (isCode : Lawful code) (xs : List ℕ) (long : length xs 
 
   -- ---- the hard stage's answer
 
-  -- it is a codeword within t flips and the number of flips, and there is no other, ..
+  -- it is a codeword within t flips and the positions where it differs, and there is no other, ..
   pub hard-found : (r : Repair) → (hardStage code xs ≡ some r)
-      ↔ (Codeword code (r .word) × (flips (r .word) xs ≤ code .t) × (r .flips ≡ flips (r .word) xs))
+      ↔ (Codeword code (r .word) × (flips (r .word) xs ≤ code .t) × (r .flipped ≡ differences 0 xs (r .word)))
   unfolding hardStage
   hard-found r = (λ e. there (repaired code xs) refl e, back)
     where
       stage : Option (List ℕ) → Option Repair
-      stage = Option·map (λ (w : List ℕ). record { word = w; flips = flips w xs })
+      stage = Option·map (λ (w : List ℕ). record { word = w; flipped = differences 0 xs w })
 
       there : (o : Option (List ℕ)) → repaired code xs ≡ o → stage o ≡ some r
-          → Codeword code (r .word) × (flips (r .word) xs ≤ code .t) × (r .flips ≡ flips (r .word) xs)
+          → Codeword code (r .word) × (flips (r .word) xs ≤ code .t) × (r .flipped ≡ differences 0 xs (r .word))
       there none h e = absurd (let z : _≡_ {A = ℕ} 0 1 = cc in omega arith)
       there (some w) h e =
-          let q : record { word = w; flips = flips w xs } ≡ r = Option·some-injective (record { word = w; flips = flips w xs }) r e in
+          let q : record { word = w; flipped = differences 0 xs w } ≡ r = Option·some-injective (record { word = w; flipped = differences 0 xs w }) r e in
           let (v, k) = repaired-some code xs long bits w h in
-          subst (λ (s : Repair). Codeword code (s .word) × (flips (s .word) xs ≤ code .t) × (s .flips ≡ flips (s .word) xs)) q (v, k, refl)
+          subst (λ (s : Repair). Codeword code (s .word) × (flips (s .word) xs ≤ code .t) × (s .flipped ≡ differences 0 xs (s .word))) q (v, k, refl)
 
-      back : Codeword code (r .word) × (flips (r .word) xs ≤ code .t) × (r .flips ≡ flips (r .word) xs) → stage (repaired code xs) ≡ some r
+      back : Codeword code (r .word) × (flips (r .word) xs ≤ code .t) × (r .flipped ≡ differences 0 xs (r .word)) → stage (repaired code xs) ≡ some r
       back h =
-          ap stage (repaired-near (r .word) (h .0) (h .1)) ∙ ap (λ (k : ℕ). some (record { word = r .word; flips = k })) (sym (h .2))
+          ap stage (repaired-near (r .word) (h .0) (h .1)) ∙ ap (λ (P : List ℕ). some (record { word = r .word; flipped = P })) (sym (h .2))
+
+  -- .. the positions are as many as the flips, they rise and are below n, and the word flipped there is the codeword, ..
+  pub hard-flipped : (r : Repair) → hardStage code xs ≡ some r
+      → (length (r .flipped) ≡ flips (r .word) xs) × Rising 0 (code .n) (r .flipped) × (flippedAt (r .flipped) xs ≡ r .word)
+  hard-flipped r e =
+      let (v, h, q) = hard-found r .0 e in
+      let D = differences 0 xs (r .word) in (
+        ap length q ∙ length-differences 0 xs (r .word) ∙ flips-sym xs (r .word),
+        subst (Rising 0 (code .n)) (sym q) (rising-differences 0 (code .n) xs (r .word) (omega (arith, long))),
+        ap (λ (P : List ℕ). flippedAt P xs) q ∙ flipped-differences xs (r .word) bits (v .bits) (long ∙ sym (v .long)),
+      )
 
   -- .. and the word is lost exactly when no codeword is within t flips
   pub hard-lost : (hardStage code xs ≡ none) ↔ ((w : List ℕ) → Codeword code w → flips w xs ≤ code .t → ⊥)
@@ -172,8 +184,8 @@ module _ (code : Code) (isCode : Lawful code) (xs : List ℕ) (long : length xs 
     where
       there : hardStage code xs ≡ none → (w : List ℕ) → Codeword code w → flips w xs ≤ code .t → ⊥
       there e w v h =
-          let found : hardStage code xs ≡ some (record { word = w; flips = flips w xs }) =
-          hard-found (record { word = w; flips = flips w xs }) .1 (v, h, refl) in
+          let found : hardStage code xs ≡ some (record { word = w; flipped = differences 0 xs w }) =
+          hard-found (record { word = w; flipped = differences 0 xs w }) .1 (v, h, refl) in
           let z : _≡_ {A = ℕ} 0 1 = cc in
           omega arith
 

@@ -6,17 +6,19 @@ use native.Mathlib.Omega.{arith}
 use mathlib.Core.Path.{_≡_, refl, sym, ap, ap₂, _∙_, subst}
 use mathlib.Core.Bool.{Bool, true, false, cond}
 use mathlib.Core.List.{List, [], _∷_, map, List·Memᴰ, List·Memᴰ·head, List·Memᴰ·tail}
+use borrow.Author.Tests.{le-ltb}
 use lib.Bits.{bitXor, xor-self}
-use lib.Dec.{eqb}
+use lib.Dec.{eqb, ltb}
 use lib.ListN.{length, length-map}
 use Rattle.galois.specs.Field.{alpha, mul}
 use Rattle.galois.proofs.Xor.{bit-cases, xor-swap, xor-bits-mul}
 use Rattle.galois.proofs.Primitive.{Primitive}
 use Rattle.galois.proofs.FieldLaws.{alpha-nonzero, mul-alpha}
 use Rattle.galois.proofs.FieldOf.{El, field, power, power-once}
-use Rattle.bch.specs.Words.{Below, Bits, flips}
+use Rattle.bch.specs.Words.{Below, Bits, flips, flip, flippedAt, differences}
 use Rattle.bch.specs.Code.{powerSumFrom}
 use Rattle.bch.proofs.codes.Trials.{mapped}
+use Rattle.bch.proofs.codes.Behind.{flipFrom, flippedFrom, flipped-whole}
 use Rattle.bch.proofs.codes.Counting.{Compared, alike, unlike, compared}
 use Rattle.bch.proofs.algebra.Peterson.{cube, fifth}
 use Rattle.bch.proofs.algebra.Unique.{Errors, total, power1, power3, power5}
@@ -51,12 +53,6 @@ sumAt m i (p ∷ P) = bitXor (alpha m (i * p)) (sumAt m i P)
 
 -- ---- where two words differ
 
--- the positions where they differ, of words whose first bits stand at position `at`
-unfoldable pub differences : ℕ → List ℕ → List ℕ → List ℕ
-differences at [] ys = []
-differences at (x ∷ xs) [] = []
-differences at (x ∷ xs) (y ∷ ys) = cond (eqb x y) (differences (suc at) xs ys) (at ∷ differences (suc at) xs ys)
-
 -- there are as many as flips
 pub length-differences : (at : ℕ) (xs ys : List ℕ) → length (differences at xs ys) ≡ flips xs ys
 unfolding differences flips
@@ -80,6 +76,52 @@ rising-differences at high (x ∷ xs) (y ∷ ys) h = go (eqb x y) (rising-differ
         → Rising at high (cond b (differences (suc at) xs ys) (at ∷ differences (suc at) xs ys))
     go true r = rising-from at (suc at) high (differences (suc at) xs ys) (omega arith) r
     go false r = (omega arith, omega arith, r)
+
+-- ---- a word flipped where it differs from another is the other
+
+flip-first : (at x : ℕ) (xs : List ℕ) → flipFrom at at (x ∷ xs) ≡ (1 - x) ∷ xs
+unfolding flipFrom flip
+flip-first at x xs =
+    let e : at - at ≡ 0 = omega arith in
+    rw (le-ltb at at (omega arith), e) refl
+
+flip-tail : (at p x : ℕ) (xs : List ℕ) → suc at ≤ p → flipFrom at p (x ∷ xs) ≡ x ∷ flipFrom (suc at) p xs
+unfolding flipFrom flip
+flip-tail at p x xs h =
+    let e : p - at ≡ suc (p - suc at) = omega arith in
+    rw (le-ltb p at (omega arith), le-ltb p (suc at) h, e) refl
+
+-- positions behind the first bit leave it
+flipped-tail : (at high x : ℕ) (P xs : List ℕ) → Rising (suc at) high P → flippedFrom at P (x ∷ xs) ≡ x ∷ flippedFrom (suc at) P xs
+unfolding flippedFrom Rising
+flipped-tail at high x [] xs r = refl
+flipped-tail at high x (p ∷ P) xs r =
+    ap (flippedFrom at P) (flip-tail at p x xs (r .0))
+    ∙ flipped-tail at high x P (flipFrom (suc at) p xs) (rising-from (suc at) (suc p) high P (omega (arith, r .0)) (r .2))
+
+flipped-from : (at : ℕ) (xs ys : List ℕ) → Bits xs → Bits ys → length xs ≡ length ys → flippedFrom at (differences at xs ys) xs ≡ ys
+unfolding Below flippedFrom differences
+flipped-from at [] [] hx hy l = refl
+flipped-from at [] (y ∷ ys) hx hy l = absurd (omega arith)
+flipped-from at (x ∷ xs) [] hx hy l = absurd (omega arith)
+flipped-from at (x ∷ xs) (y ∷ ys) hx hy l = go (eqb x y) (compared x y) (flipped-from (suc at) xs ys (hx .1) (hy .1) (omega arith))
+  where
+    D : List ℕ
+    D = differences (suc at) xs ys
+
+    r : Rising (suc at) (suc at + length xs) D
+    r = rising-differences (suc at) (suc at + length xs) xs ys (omega arith)
+
+    go : (b : Bool) → Compared x y b → flippedFrom (suc at) D xs ≡ ys → flippedFrom at (cond b D (at ∷ D)) (x ∷ xs) ≡ y ∷ ys
+    go true (alike e) i = flipped-tail at (suc at + length xs) x D xs r ∙ ap₂ (λ (z : ℕ) (zs : List ℕ). z ∷ zs) e i
+    go false (unlike n) i =
+        let e : 1 - x ≡ y = omega (arith, hx .0, hy .0) in
+        ap (flippedFrom at D) (flip-first at x xs) ∙ flipped-tail at (suc at + length xs) (1 - x) D xs r ∙ ap₂ (λ (z : ℕ) (zs : List ℕ). z ∷ zs) e i
+
+pub flipped-differences : (xs ys : List ℕ) → Bits xs → Bits ys → length xs ≡ length ys → flippedAt (differences 0 xs ys) xs ≡ ys
+flipped-differences xs ys hx hy l = sym (flipped-whole (differences 0 xs ys) xs) ∙ flipped-from 0 xs ys hx hy l
+
+-- ---- and their sums
 
 -- bits that are not equal add up to 1
 unlike-bits : (x y : ℕ) → x < 2 → y < 2 → (x ≡ y → ⊥) → bitXor x y ≡ 1

@@ -6,15 +6,16 @@ use mathlib.Core.List.{List, [], _∷_, map}
 use mathlib.Core.Option.{Option, none, some, Option·map}
 use lib.ListN.{length}
 use Rattle.galois.specs.Field.{mul}
-use Rattle.bch.specs.Words.{Bits, Distinct, flippedAt}
+use Rattle.bch.specs.Words.{Bits, flippedAt}
 use Rattle.bch.specs.Code.{Code, syndrome, wordLength}
 use Rattle.bch.specs.Hard.{repaired, hardStage}
 use Rattle.bch.proofs.codes.Settings.{Lawful, primitive-of}
-use Rattle.bch.proofs.codes.Positions.{sumAt}
-use Rattle.bch.proofs.decoding.Decoder.{attempted, FindsFor, repaired-tried, tried-distinct, hard-tried}
+use Rattle.bch.proofs.codes.Positions.{Rising, sumAt}
+use Rattle.bch.proofs.decoding.Decoder.{attempted, FindsFor, repaired-tried, ordered-rising, hard-tried}
 use Rattle.bch.proofs.decoding.Elements.{Quadratics, elements, elements-find}
 use Rattle.bch.proofs.decoding.KappaDecoder.{Kappas, kappas, kappas-more}
 use Rattle.bch.proofs.decoding.Solvers.{quadOf, firstOf, secondOf, quadratics, kappa-tables}
+use Rattle.bch.proofs.decoding.Sorting.{sorted}
 
 -- the tables that t errors need
 pub record Tables (m t : ℕ) (quad first second : ℕ → ℕ) : Type 0 where
@@ -47,24 +48,22 @@ module _ (c : Code) (isCode : Lawful c) (quad first second : ℕ → ℕ) (table
       elements-find (c .m) (primitive-of c isCode) quad (kappas (c .m) first second) (c .n) (S 1) (S 3) (S 5) (isCode .n-most) (c .t) (isCode .t-least)
       (isCode .t-most) (tables .quadratics) (λ e. kappas-more (c .m) (primitive-of c isCode) first second (tables .kappas e))
 
-  -- the hard stage's codeword is the word flipped at the positions found, ..
-  pub repaired-located : repaired c xs
-      ≡ Option·map (λ (P : List ℕ). flippedAt P xs) (located (c .m) (c .t) (c .n) quad first second (syndrome (c .m) 1 xs) (syndrome (c .m) 3 xs)
-      (syndrome (c .m) 5 xs))
+  -- the positions found, in order
+  abbrev ordered : Option (List ℕ)
+  ordered = Option·map sorted (located (c .m) (c .t) (c .n) quad first second (S 1) (S 3) (S 5))
+
+  -- the hard stage's codeword is the word flipped at them, ..
+  pub repaired-located : repaired c xs ≡ Option·map (λ (P : List ℕ). flippedAt P xs) ordered
   unfolding located
   repaired-located = repaired-tried c isCode xs long bits E found
 
-  -- .. which are distinct, ..
-  pub located-distinct : (P : List ℕ) → located (c .m) (c .t) (c .n) quad first second (syndrome (c .m) 1 xs) (syndrome (c .m) 3 xs)
-      (syndrome (c .m) 5 xs) ≡ some P
-      → Distinct (c .n) P
+  -- .. they rise, ..
+  pub located-rising : (P : List ℕ) → ordered ≡ some P → Rising 0 (c .n) P
   unfolding located
-  located-distinct P e = tried-distinct c isCode xs long bits E found P e
+  located-rising P e = ordered-rising c isCode xs long bits E found P e
 
-  -- .. and as many as its flips
-  pub hard-located : hardStage c xs
-      ≡ Option·map (λ (P : List ℕ). record { word = flippedAt P xs; flips = length P })
-      (located (c .m) (c .t) (c .n) quad first second (syndrome (c .m) 1 xs) (syndrome (c .m) 3 xs) (syndrome (c .m) 5 xs))
+  -- .. and its answer are they and the word
+  pub hard-located : hardStage c xs ≡ Option·map (λ (P : List ℕ). record { word = flippedAt P xs; flipped = P }) ordered
   unfolding located
   hard-located = hard-tried c isCode xs long bits E found
 
@@ -81,7 +80,7 @@ closedForm c xs =
 
 -- so the hard stage of every code is to be had in closed form
 pub hard-closed : (c : Code) → Lawful c → (xs : List ℕ) → length xs ≡ wordLength c → Bits xs
-    → hardStage c xs ≡ Option·map (λ (P : List ℕ). record { word = flippedAt P xs; flips = length P }) (closedForm c xs)
+    → hardStage c xs ≡ Option·map (λ (P : List ℕ). record { word = flippedAt P xs; flipped = P }) (Option·map sorted (closedForm c xs))
 unfolding closedForm
 hard-closed c isCode xs long bits =
     hard-located c isCode (quadOf (c .m)) (firstOf (c .m)) (secondOf (c .m)) (solved (c .m) (c .t)) xs long bits

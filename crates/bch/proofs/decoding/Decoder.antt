@@ -1,12 +1,12 @@
 -- The decoder by elements: the logarithms of elements that were computed from the syndromes, in whatever way, where they
 -- pass a check. If the elements are those of a solution wherever there is one, the hard stage's answer is the word flipped
--- at those positions, which are distinct, so that there are as many flips. Assumes nothing.
+-- at those positions, which in order are those where it differs. Assumes nothing.
 use Prim.Native.Nat.{ℕ, _-_, _^_, _≤_, _<_}
 use native.Mathlib.Omega.{arith}
-use mathlib.Core.Path.{_≡_, refl, sym, ap, _∙_, subst}
+use mathlib.Core.Path.{_≡_, refl, sym, ap, ap₂, _∙_, subst}
 use mathlib.Core.Bool.{Bool, true, false, cond, _&&_, _||_}
 use mathlib.Core.List.{List, [], _∷_, map, List·Memᴰ, Memᴰ·cast}
-use mathlib.Core.Option.{Option, none, some, Option·map}
+use mathlib.Core.Option.{Option, none, some, Option·map, Option·some-injective}
 use lib.Dec.{T, eqb, ltb, eqb→eq, ltb→lt, lt→ltb, nltb→le}
 use lib.ListN.{length, length-map}
 use Rattle.galois.specs.Field.{log}
@@ -14,13 +14,12 @@ use Rattle.galois.proofs.Tests.{and-left, and-right, and-intro, or-right, or-in
 use Rattle.galois.proofs.Primitive.{Primitive}
 use Rattle.galois.proofs.FieldLaws.{log-alpha}
 use Rattle.galois.proofs.FieldOf.{El, power}
-use Rattle.bch.specs.Words.{Below, Bits, Distinct, flips, flippedAt}
+use Rattle.bch.specs.Words.{Below, Bits, Distinct, flippedAt, differences}
 use Rattle.bch.specs.Code.{Code, syndrome, wordLength}
 use Rattle.bch.specs.Hard.{Repair, repaired, hardStage}
 use Rattle.bch.proofs.codes.Settings.{Lawful, primitive-of}
 use Rattle.bch.proofs.codes.Trials.{mapping}
-use Rattle.bch.proofs.codes.Counting.{flips-sym}
-use Rattle.bch.proofs.codes.Positions.{Rising, rising-member, sumAt, differences, length-differences, locators, length-locators}
+use Rattle.bch.proofs.codes.Positions.{Rising, rising-member, sumAt, flipped-differences, locators, length-locators}
 use Rattle.bch.proofs.codes.HardLaws.{repaired-some}
 use Rattle.bch.proofs.decoding.Located.{Summed, Solution, Located, near-located, repaired-summed, repaired-unlocated}
 use Rattle.bch.proofs.decoding.Sorting.{sorted, length-sorted, sorted-is, sum-sorted, sorted-distinct, distinct-below}
@@ -208,14 +207,6 @@ module _ (c : Code) (isCode : Lawful c) (xs : List ℕ) (long : length xs ≡ wo
       repaired-unlocated c isCode xs long bits
       (attempted-none (c .m) (primitive-of c isCode) (c .t) (c .n) (S 1) (S 3) (S 5) (isCode .n-most) E found e)
 
-  -- so the hard stage's codeword is the word flipped at the positions found
-  pub repaired-tried : repaired c xs ≡ Option·map (λ (P : List ℕ). flippedAt P xs) tried
-  repaired-tried = go tried refl
-    where
-      go : (o : Option (List ℕ)) → tried ≡ o → repaired c xs ≡ Option·map (λ (P : List ℕ). flippedAt P xs) o
-      go none e = tried-none e
-      go (some P) e = tried-some P e
-
   module _ (P : List ℕ) (e : tried ≡ some P) where
     abbrev D : List ℕ
     D = differences 0 xs (flippedAt P xs)
@@ -226,27 +217,52 @@ module _ (c : Code) (isCode : Lawful c) (xs : List ℕ) (long : length xs ≡ wo
         near-located c isCode xs long bits (flippedAt P xs) v h
 
     -- in order they are the positions where the codeword differs from the word, ..
-    pub tried-sorted : sorted P ≡ differences 0 xs (flippedAt P xs)
+    tried-sorted : sorted P ≡ differences 0 xs (flippedAt P xs)
     tried-sorted =
         ap sorted (sym (attempted-logs (c .m) (c .t) (c .n) (S 1) (S 3) (S 5) E P e))
         ∙ logs-are (c .m) (primitive-of c isCode) (c .t) (c .n) (S 1) (S 3) (S 5) (isCode .n-most) E found D located
 
-    -- .. so they are distinct, ..
-    pub tried-distinct : Distinct (c .n) P
-    tried-distinct = sorted-distinct (c .n) P (subst (Rising 0 (c .n)) (sym tried-sorted) (located .rising))
+    -- .. so they rise, ..
+    tried-rising : Rising 0 (c .n) (sorted P)
+    tried-rising = subst (Rising 0 (c .n)) (sym tried-sorted) (located .rising)
 
-    -- .. and as many as the flips
-    pub tried-flips : flips (flippedAt P xs) xs ≡ length P
-    tried-flips = flips-sym (flippedAt P xs) xs ∙ sym (length-differences 0 xs (flippedAt P xs)) ∙ sym (ap length tried-sorted) ∙ length-sorted P
+    -- .. and the codeword is the word flipped at them
+    sorted-flipped : flippedAt (sorted P) xs ≡ flippedAt P xs
+    sorted-flipped =
+        let v = repaired-some c xs long bits (flippedAt P xs) (tried-some P e) .0 in
+        ap (λ (Q : List ℕ). flippedAt Q xs) tried-sorted ∙ flipped-differences xs (flippedAt P xs) bits (v .bits) (long ∙ sym (v .long))
 
-  -- the hard stage's answer, with the number of flips
-  pub hard-tried : hardStage c xs ≡ Option·map (λ (P : List ℕ). record { word = flippedAt P xs; flips = length P }) tried
+  -- the positions found, in order
+  abbrev ordered : Option (List ℕ)
+  ordered = Option·map sorted tried
+
+  -- so the hard stage's codeword is the word flipped at them, ..
+  pub repaired-tried : repaired c xs ≡ Option·map (λ (P : List ℕ). flippedAt P xs) ordered
+  repaired-tried = go tried refl
+    where
+      go : (o : Option (List ℕ)) → tried ≡ o → repaired c xs ≡ Option·map (λ (P : List ℕ). flippedAt P xs) (Option·map sorted o)
+      go none e = tried-none e
+      go (some P) e = tried-some P e ∙ ap some (sym (sorted-flipped P e))
+
+  -- .. they rise, ..
+  pub ordered-rising : (P : List ℕ) → ordered ≡ some P → Rising 0 (c .n) P
+  ordered-rising P = go tried refl
+    where
+      go : (o : Option (List ℕ)) → tried ≡ o → Option·map sorted o ≡ some P → Rising 0 (c .n) P
+      go none e h = absurd (let z : _≡_ {A = ℕ} 0 1 = cc in omega arith)
+      go (some Q) e h = subst (Rising 0 (c .n)) (Option·some-injective (sorted Q) P h) (tried-rising Q e)
+
+  -- .. and its answer are they and the word
+  pub hard-tried : hardStage c xs ≡ Option·map (λ (P : List ℕ). record { word = flippedAt P xs; flipped = P }) ordered
   unfolding hardStage
   hard-tried = go tried refl
     where
       stage : Option (List ℕ) → Option Repair
-      stage = Option·map (λ (w : List ℕ). record { word = w; flips = flips w xs })
+      stage = Option·map (λ (w : List ℕ). record { word = w; flipped = differences 0 xs w })
 
-      go : (o : Option (List ℕ)) → tried ≡ o → stage (repaired c xs) ≡ Option·map (λ (P : List ℕ). record { word = flippedAt P xs; flips = length P }) o
+      go : (o : Option (List ℕ)) → tried ≡ o
+          → stage (repaired c xs) ≡ Option·map (λ (P : List ℕ). record { word = flippedAt P xs; flipped = P }) (Option·map sorted o)
       go none e = ap stage (tried-none e)
-      go (some P) e = ap stage (tried-some P e) ∙ ap (λ (k : ℕ). some (record { word = flippedAt P xs; flips = k })) (tried-flips P e)
+      go (some P) e =
+          ap stage (tried-some P e)
+          ∙ ap₂ (λ (w Q : List ℕ). some (record { word = w; flipped = Q })) (sym (sorted-flipped P e)) (sym (tried-sorted P e))

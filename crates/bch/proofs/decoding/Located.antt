@@ -10,13 +10,13 @@ use lib.Bits.{bitXor, xor-comm}
 use lib.ListN.{length}
 use Rattle.galois.specs.Field.{alpha}
 use Rattle.galois.proofs.Xor.{bit-cases, xor-assoc, xor-left-comm, xor-undo, xor-same}
-use Rattle.bch.specs.Words.{Below, Bits, flips, flip, flippedAt}
+use Rattle.bch.specs.Words.{Below, Bits, flips, flip, flippedAt, differences}
 use Rattle.bch.specs.Code.{Code, Codeword, wordLength, powerSumFrom, syndrome}
 use Rattle.bch.specs.Hard.{repaired}
 use Rattle.bch.proofs.codes.Settings.{Lawful}
 use Rattle.bch.proofs.codes.SyndromeLaws.{passes→, →passes}
 use Rattle.bch.proofs.codes.Counting.{flips-same, flips-sym, bits-flip, length-flip, flips-flip}
-use Rattle.bch.proofs.codes.Positions.{Rising, sumAt, differences, length-differences, rising-differences, sum-differences}
+use Rattle.bch.proofs.codes.Positions.{Rising, sumAt, length-differences, rising-differences, sum-differences}
 use Rattle.bch.proofs.codes.HardLaws.{repaired-some, repaired-near}
 
 -- ---- a word flipped at a list of positions

@@ -12,14 +12,14 @@ use Rattle.galois.proofs.Primitive.{Primitive}
 use Rattle.galois.proofs.Field2.{Field2}
 use Rattle.galois.proofs.FieldLaws.{mul-alpha}
 use Rattle.galois.proofs.FieldOf.{El, same, none, one, plus, product, field, power}
-use Rattle.bch.specs.Words.{Bits, flips}
+use Rattle.bch.specs.Words.{Bits, flips, differences}
 use Rattle.bch.specs.Code.{Code, Codeword, syndrome, wordLength}
 use Rattle.bch.specs.Locator.{d2, locator}
 use Rattle.bch.proofs.codes.Settings.{Lawful, primitive-of}
 use Rattle.bch.proofs.codes.Trials.{mapping}
 use Rattle.bch.proofs.algebra.Unique.{power1, power3, power5}
 use Rattle.bch.proofs.algebra.Roots.{locator1-roots, locator2-roots, locator3-roots}
-use Rattle.bch.proofs.codes.Positions.{rising-member, differences, locators, length-locators, locator-member, power1-locators, power3-locators}
+use Rattle.bch.proofs.codes.Positions.{rising-member, locators, length-locators, locator-member, power1-locators, power3-locators}
 use Rattle.bch.proofs.codes.Positions.{power5-locators}
 use Rattle.bch.proofs.decoding.Located.{Located, near-located}
 

@@ -1,8 +1,8 @@
 -- Sorting a list of positions: a list with the members of a rising list, and no more of them, is sorted to that list; a list
 -- that is sorted to a rising one has distinct members; and its sums do not depend on the order. Assumes nothing.
-use Prim.Native.Nat.{ℕ, suc, _*_, _≤_, _<_}
+use Prim.Native.Nat.{ℕ, suc, _*_, _≤_, _<_, min, max}
 use native.Mathlib.Omega.{arith}
-use mathlib.Core.Path.{_≡_, refl, sym, ap, _∙_}
+use mathlib.Core.Path.{_≡_, refl, sym, ap, ap₂, _∙_}
 use mathlib.Core.Bool.{Bool, true, false, cond}
 use mathlib.Core.List.{List, [], _∷_, List·Memᴰ, List·Memᴰ·head, List·Memᴰ·tail}
 use borrow.Author.Tests.{leb-true, leb-false, le-leb, lt-leb, ne-eqb}
@@ -98,6 +98,51 @@ insert-comm a b (c ∷ l) = go (leb a c) refl (leb b c) refl (leb a b) refl (ins
         let hb : c < b = leb-false b c f in
         ap (insert a) (insert-high b c l hb) ∙ insert-high a c (insert b l) ha ∙ ap (λ (x : List ℕ). c ∷ x) i
         ∙ sym (ap (insert b) (insert-high a c l ha) ∙ insert-high b c (insert a l) hb)
+
+-- two numbers in order, ..
+pub sorted-two : (x y : ℕ) → sorted (x ∷ y ∷ []) ≡ min x y ∷ max x y ∷ []
+unfolding sorted insert
+sorted-two x y = go (leb x y) refl
+  where
+    go : (b : Bool) → leb x y ≡ b → cond b (x ∷ y ∷ []) (y ∷ x ∷ []) ≡ min x y ∷ max x y ∷ []
+    go true e =
+        let h : x ≤ y = leb-true x y e in
+        let p : x ≡ min x y = omega arith in
+        let q : y ≡ max x y = omega arith in
+        ap₂ (λ (u v : ℕ). u ∷ v ∷ []) p q
+    go false e =
+        let h : y < x = leb-false x y e in
+        let p : y ≡ min x y = omega arith in
+        let q : x ≡ max x y = omega arith in
+        ap₂ (λ (u v : ℕ). u ∷ v ∷ []) p q
+
+-- .. a third put to them, ..
+insert-pair : (x a b : ℕ) → a ≤ b → insert x (a ∷ b ∷ []) ≡ min x a ∷ min (max x a) b ∷ max (max x a) b ∷ []
+unfolding insert sorted
+insert-pair x a b l = go (leb x a) refl
+  where
+    three : {u v w u′ v′ w′ : ℕ} → u ≡ u′ → v ≡ v′ → w ≡ w′ → u ∷ v ∷ w ∷ [] ≡ u′ ∷ v′ ∷ w′ ∷ []
+    three p q r = cc
+
+    go : (c : Bool) → leb x a ≡ c → cond c (x ∷ a ∷ b ∷ []) (a ∷ insert x (b ∷ [])) ≡ min x a ∷ min (max x a) b ∷ max (max x a) b ∷ []
+    go true e =
+        let h : x ≤ a = leb-true x a e in
+        let p : x ≡ min x a = omega arith in
+        let q : a ≡ min (max x a) b = omega arith in
+        let r : b ≡ max (max x a) b = omega arith in
+        three p q r
+    go false e =
+        let h : a < x = leb-false x a e in
+        let p : a ≡ min x a = omega arith in
+        let q : min x b ≡ min (max x a) b = omega arith in
+        let r : max x b ≡ max (max x a) b = omega arith in
+        ap (λ (k : List ℕ). a ∷ k) (sorted-two x b) ∙ three p q r
+
+-- .. and three
+pub sorted-three : (x y z : ℕ)
+    → sorted (x ∷ y ∷ z ∷ []) ≡ min x (min y z) ∷ min (max x (min y z)) (max y z) ∷ max (max x (min y z)) (max y z) ∷ []
+unfolding sorted
+sorted-three x y z = ap (insert x) (sorted-two y z) ∙ insert-pair x (min y z) (max y z) (omega arith)
 
 -- a list without one of its members
 record Without (p : ℕ) (Q : List ℕ) : Type 0 where
@@ -214,6 +259,12 @@ sorted-distinct n [] r = tt
 sorted-distinct n (a ∷ l) r =
     let (below, new, rest) = rising-insert 0 n a (sorted l) r in
     (below, sym (in-sorted a l) ∙ new, sorted-distinct n l rest)
+
+-- rising positions are distinct
+pub rising-distinct : (low high : ℕ) (P : List ℕ) → Rising low high P → Distinct high P
+unfolding Rising Distinct
+rising-distinct low high [] r = tt
+rising-distinct low high (p ∷ P) r = (r .1, not-in (suc p) high p P (omega arith) (r .2), rising-distinct (suc p) high P (r .2))
 
 -- distinct positions below n are below n
 pub distinct-below : (n : ℕ) (l : List ℕ) → Distinct n l → Below n l

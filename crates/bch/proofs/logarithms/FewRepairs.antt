@@ -1,28 +1,30 @@
 -- The hard stage where one position makes all the syndromes, or none does: the logarithms and the powers are enough for it, since tables
 -- that have the roots too would give the same positions. Assumes nothing but what the list is asked to hold.
-use Prim.Native.Nat.{ℕ, zero, suc, _+_, _%_, _^_, _≤_, _<_}
+use Prim.Native.Nat.{ℕ, _+_, _%_, _^_, _≤_, _<_}
 use native.Mathlib.Decide.{ℕ-discrete}
 use native.Mathlib.Omega.{arith}
-use mathlib.Core.Path.{_≡_, sym, ap, _∙_, subst}
+use mathlib.Core.Path.{_≡_, sym, ap, _∙_}
 use mathlib.Core.Bool.{Bool, true}
 use mathlib.Core.List.{List, [], _∷_}
-use mathlib.Core.Option.{some}
+use mathlib.Core.Option.{some, Option·map}
 use lib.Bits.{bitXor}
 use lib.ListN.{length}
 use Rattle.galois.specs.Field.{log}
 use Rattle.galois.proofs.FieldLaws.{log-lt}
-use Rattle.bch.specs.Words.{Below, Bits}
+use Rattle.bch.specs.Words.{Bits}
 use Rattle.bch.specs.Code.{Code, wordLength}
 use Rattle.bch.proofs.codes.Settings.{Lawful, primitive-of}
 use Rattle.bch.proofs.decoding.Elements.{ifZero, zero-is}
 use Rattle.bch.proofs.decoding.KappaSums.{within}
+use Rattle.bch.proofs.decoding.Sorting.{sorted}
 use Rattle.bch.proofs.tables.Placing.{positions, Placed}
 use Rattle.bch.proofs.tables.CodeTables.{CodeTables, logIn, powersIn}
 use Rattle.bch.proofs.tables.TableLoops.{FieldFilled}
 use Rattle.bch.proofs.tables.TablesThere.{code-tables-there}
 use Rattle.bch.proofs.logarithms.LogLocator.{locateIn, moreIn}
-use Rattle.bch.proofs.logarithms.LogAnswers.{syndromesOf, syndromes-in, repairs-in}
-use Rattle.bch.proofs.logarithms.Repairs.{Repairs, within-below, placed-within}
+use Rattle.bch.proofs.logarithms.LogSteps.{Ordered}
+use Rattle.bch.proofs.logarithms.LogAnswers.{syndromesOf, syndromes-in, repairs-in, found-placed}
+use Rattle.bch.proofs.logarithms.Repairs.{Repairs}
 
 module _ (c : Code) (lawful : Lawful c) (ts : List ℕ) (field : FieldFilled (c .m) (c .t) ts) where
   us : List ℕ
@@ -64,16 +66,10 @@ module _ (c : Code) (lawful : Lawful c) (ts : List ℕ) (field : FieldFilled (c 
         (ap (λ (l : ℕ). within (c .n) (l ∷ [])) (sym a)
         ∙ sym (zero-is r (within (c .n) (l1 ∷ [])) (moreIn (c .m) (c .t) (c .n) us x l1 r) z))
 
-    pub few-repairs : (found : Bool) (count : ℕ) (ps : List ℕ)
-        → positions found count ps ≡ ifZero s (some []) (within (c .n) (logIn ts (s % 1024) ∷ [])) → Repairs c xs found count ps
-    few-repairs found count ps e = repairs-in c lawful us tables xs long bits s packs found count ps (e ∙ few-located)
+    module _ (found : Bool) (count : ℕ) (ps : List ℕ)
+        (e : Ordered (positions found count ps) (ifZero s (some []) (within (c .n) (logIn ts (s % 1024) ∷ [])))) where
+      pub few-repairs : Repairs c xs found count ps
+      few-repairs = repairs-in c lawful us tables xs long bits s packs found count ps (e ∙ ap (Option·map sorted) few-located)
 
--- what is found so is placed
-few-below : (n s x : ℕ) (P : List ℕ) → ifZero s (some []) (within n (x ∷ [])) ≡ some P → Below n P
-unfolding ifZero Below
-few-below n zero x P q = let e : [] ≡ P = cc in subst (Below n) e tt
-few-below n (suc s) x P q = within-below n (x ∷ []) P q
-
-pub few-placed : (n s x : ℕ) (found : Bool) (count : ℕ) (ps : List ℕ) → positions found count ps ≡ ifZero s (some []) (within n (x ∷ []))
-    → found ≡ true → count ≤ 3 → length ps ≡ 3 → Placed n count ps
-few-placed n s x found count ps e z few long = placed-within n found count ps z few long (λ P q. few-below n s x P (sym e ∙ q))
+      pub few-placed : found ≡ true → count ≤ 3 → length ps ≡ 3 → Placed (c .n) count ps
+      few-placed = found-placed c lawful us tables xs long bits s packs found count ps (e ∙ ap (Option·map sorted) few-located)

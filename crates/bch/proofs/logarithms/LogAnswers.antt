@@ -14,12 +14,12 @@ use Rattle.bch.specs.Code.{Code, syndrome, wordLength}
 use Rattle.bch.specs.Hard.{repaired, hardStage}
 use Rattle.bch.proofs.codes.Settings.{Lawful, primitive-of}
 use Rattle.bch.proofs.codes.SyndromeLaws.{syndrome-lt}
-use Rattle.bch.proofs.decoding.Sorting.{distinct-below}
-use Rattle.bch.proofs.decoding.ClosedForm.{hard-located, repaired-located, located-distinct}
+use Rattle.bch.proofs.decoding.Sorting.{sorted, rising-distinct, distinct-below}
+use Rattle.bch.proofs.decoding.ClosedForm.{hard-located, repaired-located, located-rising}
 use Rattle.bch.proofs.tables.Placing.{positions, lowerPart, Placed}
 use Rattle.bch.proofs.tables.CodeTables.{CodeTables, rootsIn}
 use Rattle.bch.proofs.logarithms.LogRoots.{quadIn, firstIn, secondIn, code-tables}
-use Rattle.bch.proofs.logarithms.LogLocator.{locateIn}
+use Rattle.bch.proofs.logarithms.LogLocator.{risingIn}
 use Rattle.bch.proofs.logarithms.LogLocated.{locatedIn, locate-is}
 use Rattle.bch.proofs.logarithms.LogBounds.{Syndromes, syndromes-of}
 use Rattle.bch.proofs.logarithms.Repairs.{Repairs, placed-within}
@@ -51,38 +51,39 @@ module _ (c : Code) (lawful : Lawful c) (ts : List ℕ) (tables : CodeTables (c 
   lt : (i : ℕ) → S i < 2 ^ c .m
   lt i = syndrome-lt (c .m) (primitive-of c lawful) i xs bits
 
-  same : locateIn (c .m) (c .t) (c .n) ts s ≡ locatedIn (c .m) (c .t) (c .n) ts (S 1) (S 3) (S 5)
-  same = locate-is (c .m) (c .t) ts tables (c .n) s (S 1) (S 3) (S 5) (lawful .n-most) (lt 1) (lt 3) (lt 5) packs
+  same : risingIn (c .m) (c .t) (c .n) ts s ≡ Option·map sorted (locatedIn (c .m) (c .t) (c .n) ts (S 1) (S 3) (S 5))
+  same = ap (Option·map sorted) (locate-is (c .m) (c .t) ts tables (c .n) s (S 1) (S 3) (S 5) (lawful .n-most) (lt 1) (lt 3) (lt 5) packs)
 
   -- the hard stage's codeword is the word flipped at the positions found, ..
-  pub repaired-in : repaired c xs ≡ Option·map (λ (P : List ℕ). flippedAt P xs) (locateIn (c .m) (c .t) (c .n) ts s)
+  pub repaired-in : repaired c xs ≡ Option·map (λ (P : List ℕ). flippedAt P xs) (risingIn (c .m) (c .t) (c .n) ts s)
   repaired-in =
       repaired-located c lawful quad first second (code-tables (c .m) (c .t) ts tables) xs long bits
       ∙ ap (Option·map (λ (P : List ℕ). flippedAt P xs)) (sym same)
 
   -- .. and there is none exactly where none are found, ..
-  pub lost-in : (locateIn (c .m) (c .t) (c .n) ts s ≡ none) ↔ (repaired c xs ≡ none)
-  lost-in = (λ e. repaired-in ∙ ap (Option·map (λ (P : List ℕ). flippedAt P xs)) e, λ e. go (locateIn (c .m) (c .t) (c .n) ts s) (sym repaired-in ∙ e))
+  pub lost-in : (risingIn (c .m) (c .t) (c .n) ts s ≡ none) ↔ (repaired c xs ≡ none)
+  lost-in = (λ e. repaired-in ∙ ap (Option·map (λ (P : List ℕ). flippedAt P xs)) e, λ e. go (risingIn (c .m) (c .t) (c .n) ts s) (sym repaired-in ∙ e))
     where
       go : (o : Option (List ℕ)) → Option·map (λ (P : List ℕ). flippedAt P xs) o ≡ none → o ≡ none
       go none e = refl
       go (some P) e = absurd (let z : _≡_ {A = ℕ} 0 1 = cc in omega arith)
 
   -- .. they are distinct, ..
-  pub distinct-in : (P : List ℕ) → locateIn (c .m) (c .t) (c .n) ts s ≡ some P → Distinct (c .n) P
-  distinct-in P e = located-distinct c lawful quad first second (code-tables (c .m) (c .t) ts tables) xs long bits P (sym same ∙ e)
+  pub distinct-in : (P : List ℕ) → risingIn (c .m) (c .t) (c .n) ts s ≡ some P → Distinct (c .n) P
+  distinct-in P e =
+      rising-distinct 0 (c .n) P (located-rising c lawful quad first second (code-tables (c .m) (c .t) ts tables) xs long bits P (sym same ∙ e))
 
-  -- .. and as many as its flips
-  pub hard-in : hardStage c xs ≡ Option·map (λ (P : List ℕ). record { word = flippedAt P xs; flips = length P }) (locateIn (c .m) (c .t) (c .n) ts s)
+  -- .. and its answer are they and the word
+  pub hard-in : hardStage c xs ≡ Option·map (λ (P : List ℕ). record { word = flippedAt P xs; flipped = P }) (risingIn (c .m) (c .t) (c .n) ts s)
   hard-in =
       hard-located c lawful quad first second (code-tables (c .m) (c .t) ts tables) xs long bits
-      ∙ ap (Option·map (λ (P : List ℕ). record { word = flippedAt P xs; flips = length P })) (sym same)
+      ∙ ap (Option·map (λ (P : List ℕ). record { word = flippedAt P xs; flipped = P })) (sym same)
 
   -- ---- as a count and a list
 
-  module _ (found : Bool) (count : ℕ) (ps : List ℕ) (e : positions found count ps ≡ locateIn (c .m) (c .t) (c .n) ts s) where
+  module _ (found : Bool) (count : ℕ) (ps : List ℕ) (e : positions found count ps ≡ risingIn (c .m) (c .t) (c .n) ts s) where
     pub repairs-in : Repairs c xs found count ps
-    repairs-in = hard-in ∙ ap (Option·map (λ (P : List ℕ). record { word = flippedAt P xs; flips = length P })) (sym e)
+    repairs-in = hard-in ∙ ap (Option·map (λ (P : List ℕ). record { word = flippedAt P xs; flipped = P })) (sym e)
 
     word : repaired c xs ≡ Option·map (λ (P : List ℕ). flippedAt P xs) (positions found count ps)
     word = repaired-in ∙ ap (Option·map (λ (P : List ℕ). flippedAt P xs)) (sym e)

@@ -8,7 +8,7 @@ use mathlib.Core.Path.{_≡_, refl, sym, ap, ap₂, _∙_, subst}
 use mathlib.Core.Logic.{_≢_}
 use mathlib.Core.Bool.{cond}
 use mathlib.Core.List.{List, [], _∷_, map}
-use mathlib.Core.Option.{Option, none as lost, some}
+use mathlib.Core.Option.{Option, none as lost, some, Option·map}
 use lib.Bits.{bitXor, xor-zero-r, xor-self}
 use lib.Dec.{ltb}
 use lib.ListN.{length}
@@ -24,6 +24,7 @@ use Rattle.bch.proofs.decoding.Decoder.{attempted, attempted-logs, atte
 use Rattle.bch.proofs.decoding.Elements.{ifZero, zero-is, zero-not, single}
 use Rattle.bch.proofs.decoding.KappaDecoder.{fifthed, e5, nonzero, cubed-log, fifthed-log}
 use Rattle.bch.proofs.decoding.KappaSums.{within}
+use Rattle.bch.proofs.decoding.Sorting.{sorted}
 use Rattle.bch.proofs.tables.CodeTables.{logIn, powersIn, rootsIn, folded, reduced}
 
 -- ---- the locator, branch by branch
@@ -89,6 +90,10 @@ locateIn m t n ts s =
     let l1 = logIn ts s1 in
     let r = bitXor s (powersIn m ts l1) in
     ifZero s (some []) (ifZero r (within n (l1 ∷ [])) (moreIn m t n ts s1 l1 r))
+
+-- and in order
+abbrev pub risingIn : ℕ → ℕ → ℕ → List ℕ → ℕ → Option (List ℕ)
+risingIn m t n ts s = Option·map sorted (locateIn m t n ts s)
 
 -- ---- elements that are refused
 

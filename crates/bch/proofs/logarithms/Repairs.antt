@@ -10,17 +10,15 @@ use lib.ListN.{length, getD, take, drop}
 use lib.Seq.{drop-length, length-take-le, getD-take}
 use Rattle.bch.specs.Words.{Below, flippedAt}
 use Rattle.bch.specs.Code.{Code}
-use Rattle.bch.specs.Hard.{Repair, hardStage, hardFlips, hardWritten}
+use Rattle.bch.specs.Hard.{Repair, hardStage, hardWritten}
 use Rattle.bch.proofs.codes.Entries.{below-in}
 use Rattle.bch.proofs.codes.Behind.{flipFrom, flippedFrom}
-use Rattle.bch.proofs.decoding.Decoder.{isBelow, isBelow→, when-some}
-use Rattle.bch.proofs.decoding.KappaSums.{within}
 use Rattle.bch.proofs.tables.Placing.{positions, Placed, next}
 
 -- the hard stage flips the word at the positions found
 abbrev pub Repairs : Code → List ℕ → Bool → ℕ → List ℕ → Type 0
 Repairs c xs found count ps =
-    hardStage c xs ≡ Option·map (λ (P : List ℕ). record { word = flippedAt P xs; flips = length P }) (positions found count ps)
+    hardStage c xs ≡ Option·map (λ (P : List ℕ). record { word = flippedAt P xs; flipped = P }) (positions found count ps)
 
 -- ---- the answer
 
@@ -30,27 +28,28 @@ module _ (c : Code) (xs : List ℕ) (found : Bool) (count : ℕ) (ps : List ℕ)
     unfolding positions
     lost =
         repairs
-        ∙ ap (λ (b : Bool). Option·map (λ (P : List ℕ). record { word = flippedAt P xs; flips = length P }) (positions b count ps)) z
+        ∙ ap (λ (b : Bool). Option·map (λ (P : List ℕ). record { word = flippedAt P xs; flipped = P }) (positions b count ps)) z
 
-    pub lost-answer : (old : List ℕ) → (none ≡ hardFlips c xs) × (old ≡ hardWritten c xs old)
-    unfolding hardFlips hardWritten
+    pub lost-answer : (old : List ℕ) → (none ≡ hardStage c xs) × (old ≡ hardWritten c xs old)
+    unfolding hardWritten
     lost-answer old = (
-      sym (ap (Option·map (λ (r : Repair). r .flips)) lost),
+      sym lost,
       sym (ap (λ (o : Option Repair). Option·getD (Option·map (λ (r : Repair). r .word) o) old) lost),
     )
 
-  module _ (z : found ≡ true) (room : count ≤ length ps) where
-    staged : hardStage c xs ≡ some (record { word = flippedAt (take count ps) xs; flips = count })
+  module _ (z : found ≡ true) where
+    staged : hardStage c xs ≡ some (record { word = flippedAt (take count ps) xs; flipped = take count ps })
     unfolding positions
     staged =
         repairs
-        ∙ ap (λ (b : Bool). Option·map (λ (P : List ℕ). record { word = flippedAt P xs; flips = length P }) (positions b count ps)) z
-        ∙ ap (λ (k : ℕ). some (record { word = flippedAt (take count ps) xs; flips = k })) (length-take-le count ps room)
+        ∙ ap (λ (b : Bool). Option·map (λ (P : List ℕ). record { word = flippedAt P xs; flipped = P }) (positions b count ps)) z
 
-    pub found-answer : (old : List ℕ) → (some count ≡ hardFlips c xs) × (flippedAt (take count ps) xs ≡ hardWritten c xs old)
-    unfolding hardFlips hardWritten
+    pub found-answer : (old : List ℕ)
+        → (some (record { word = flippedAt (take count ps) xs; flipped = take count ps }) ≡ hardStage c xs)
+        × (flippedAt (take count ps) xs ≡ hardWritten c xs old)
+    unfolding hardWritten
     found-answer old = (
-      sym (ap (Option·map (λ (r : Repair). r .flips)) staged),
+      sym staged,
       sym (ap (λ (o : Option Repair). Option·getD (Option·map (λ (r : Repair). r .word) o) old) staged),
     )
 
@@ -72,11 +71,6 @@ flip-end from count i ps ys l h old =
     sym (ap (λ (P : List ℕ). flippedFrom from P ys) e) ∙ old
 
 -- ---- positions below n
-
--- what is within n is below n
-pub within-below : (n : ℕ) (Q P : List ℕ) → within n Q ≡ some P → Below n P
-unfolding within
-within-below n Q P e = let (h, q) = when-some (isBelow n Q) Q P e in rw q at (isBelow→ n Q h)
 
 -- what is found is placed, where all of it is below n
 pub placed-within : (n : ℕ) (found : Bool) (count : ℕ) (ps : List ℕ) → found ≡ true → count ≤ 3 → length ps ≡ 3

@@ -10,7 +10,7 @@ use Rattle.bch.specs.Code.{code}
 use Rattle.bch.proofs.codes.Settings.{Lawful}
 use Rattle.bch.proofs.tables.Placing.{positions, Placed}
 use Rattle.bch.proofs.tables.CodeTables.{CodeTables}
-use Rattle.bch.proofs.logarithms.LogLocator.{locateIn}
+use Rattle.bch.proofs.logarithms.LogLocator.{risingIn}
 use Rattle.bch.proofs.logarithms.LogBounds.{Syndromes}
 use Rattle.bch.proofs.logarithms.LogAnswers.{syndromesOf, syndromes-in, none-repaired, found-repaired, found-distinct, found-placed}
 use Rattle.chase.specs.Soft.{Candidate, hardBits, reliabilities, candidate, tried}
@@ -38,14 +38,14 @@ module _ (m t n : ℕ) (lawful : Lawful (code m t n)) (ts : List ℕ) (tables : 
   try-parts = syndromes-in (code m t n) lawful T (bits-tested ss ks p (deep .ready) j) s packs
 
   -- nothing is located: no candidate
-  pub try-missed : locateIn m t n ts s ≡ none → Option·map (candidate (code m t n) p ss j) (tried (code m t n) p ss j) ≡ none
+  pub try-missed : risingIn m t n ts s ≡ none → Option·map (candidate (code m t n) p ss j) (tried (code m t n) p ss j) ≡ none
   unfolding T tried positions
   try-missed h =
       ap (Option·map (candidate (code m t n) p ss j))
       (none-repaired (code m t n) lawful ts tables T long-T (bits-tested ss ks p (deep .ready) j) s packs false 0 [] (sym h) refl)
 
   module _ (found : Bool) (count : ℕ) (ps : List ℕ)
-      (e : positions found count ps ≡ locateIn m t n ts s) where
+      (e : positions found count ps ≡ risingIn m t n ts s) where
     module _ (z : found ≡ true) where
       -- what is located is below n, ..
       pub try-placed : count ≤ 3 → length ps ≡ 3 → Placed n count ps
