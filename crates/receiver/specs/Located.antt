@@ -6,9 +6,11 @@ use mathlib.Core.List.{List, map}
 use mathlib.Core.Option.{Option}
 use lib.ListN.{length, getD, take}
 use Rattle.bch.specs.Words.{Bits}
+use Rattle.bch.specs.Hard.{threePlaces}
+use Rattle.bch.proofs.logarithms.LogSteps.{Ordered}
 use Rattle.bch.proofs.logarithms.LogAnswers.{syndromesOf}
 use Rattle.bch.proofs.logarithms.LogBounds.{Syndromes}
-use Rattle.bch.proofs.logarithms.LogLocator.{locateIn}
+use Rattle.bch.proofs.logarithms.LogLocator.{risingIn}
 use Rattle.bch.proofs.logarithms.Repairs.{Repairs}
 use Rattle.bch.proofs.logarithms.Seeking.{Next}
 use Rattle.bch.proofs.tables.Placing.{Placed, positions}
@@ -24,9 +26,13 @@ bitsAt shift xs = map (λ (x : ℕ). x / 2 ^ shift) xs
 abbrev pub flipsOf : Flips → List ℕ
 flipsOf f = take (f .count) (f .at)
 
--- they are those found, or none is
+-- its unused places are 0
+abbrev pub ZeroFilled : Flips → Type 0
+ZeroFilled f = f .at ≡ threePlaces (flipsOf f)
+
+-- they are those found, in rising order, or none is
 abbrev pub Located : Flips → Option (List ℕ) → Type 0
-Located f o = (positions (f .found) (f .count) (f .at) ≡ o) × (length (f .at) ≡ 3) × (f .count ≤ 3)
+Located f o = Ordered (positions (f .found) (f .count) (f .at)) o × ZeroFilled f × (f .count ≤ 3)
 
 -- the syndromes that number j holds, below 2^32, ..
 abbrev pub sumsAt : List ℕ → ℕ → ℕ
@@ -38,7 +44,7 @@ AreSyndromes c tests = (j : ℕ) → j < length tests → Syndromes (c .m) (c .t
 
 -- .. and this is located for them
 abbrev pub locatedAt : refusal.Code → List ℕ → List ℕ → ℕ → Option (List ℕ)
-locatedAt c tables tests j = locateIn (c .m) (c .t) (c .n) tables (sumsAt tests j)
+locatedAt c tables tests j = risingIn (c .m) (c .t) (c .n) tables (sumsAt tests j)
 
 -- after so many tries are made, those until positions are located, and the positions
 abbrev pub Sought : refusal.Code → List ℕ → List ℕ → ℕ → ℕ → Flips → Type 0
@@ -48,4 +54,4 @@ Sought c tables tests made tries f = Next (locatedAt c tables tests) made (lengt
 abbrev pub Repairing : refusal.Code → ℕ → Flips → Type 0
 Repairing c s f =
     (xs : List ℕ) → length xs ≡ c .n → Bits xs → s ≡ syndromesOf (codeOf c) xs
-    → Repairs (codeOf c) xs (f .found) (f .count) (f .at) × (f .found ≡ true → Placed (c .n) (f .count) (f .at))
+    → Repairs (codeOf c) xs (f .found) (f .count) (f .at) × (f .found ≡ true → Placed (c .n) (f .count) (f .at)) × ZeroFilled f

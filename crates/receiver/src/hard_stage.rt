@@ -6,18 +6,20 @@ ghost use Prim.Native.Nat.{_+_, _*_, _^_, _<_, _≤_};
 ghost use lib.ListN.{length};
 ghost use Rattle.galois.proofs.FieldTables.{Zeros};
 ghost use Rattle.bch.specs.Words.{Bits};
-ghost use Rattle.bch.specs.Hard.{hardFlips, hardWritten};
+ghost use Rattle.bch.specs.Hard.{hardStage, hardWritten};
 ghost use Rattle.bch.proofs.codes.Behind.{flipFrom, flippedFrom};
 ghost use Rattle.bch.proofs.logarithms.LogAnswers.{syndromesOf};
 ghost use Rattle.bch.proofs.tables.Placing.{Placed};
 ghost use Rattle.bch.proofs.logarithms.Repairs.{Repairs};
 ghost use Rattle.bch.proofs.logarithms.LogBounds.{Syndromes};
 ghost use Rattle.bch.proofs.tables.TableLoops.{Rootless};
+ghost use Rattle.take_format.specs.Calls.{hardRecord};
 ghost use Rattle.refusal.specs.Named.{codeOf, Made};
 ghost use Rattle.receiver.specs.Answer.{hardOf};
-ghost use Rattle.receiver.specs.Located.{bitsAt, flipsOf, Repairing};
+ghost use Rattle.receiver.specs.Located.{bitsAt, flipsOf, ZeroFilled, Repairing};
 ghost use Rattle.receiver.specs.Tables.{Fielded};
 use crate::Hard;
+use crate::HardCase;
 use crate::locate;
 use crate::locate::Flips;
 use crate::tables;
@@ -100,27 +102,36 @@ pub fn flip_at(out: &mut [u8], from: usize, f: Flips)
     }
 }
 
-// The bits flipped at the positions that the hard stage flips, where it does.
+// The bits flipped at the positions that the hard stage flips, where it does; and these in its answer.
 fn write(c: Code, f: Flips, bits: &[u8], codeword: &mut [u8]) -> Hard
     requires { ⌜ (length (now bits) ≡ c .n) × (length (now codeword) ≡ c .n) × Bits (now bits) ⌝ }
-    requires { ⌜ Repairs (codeOf c) (now bits) (f .found) (f .count) (f .at) × (f .found ≡ true → Placed (c .n) (f .count) (f .at)) ⌝ }
-    ensures { λ r. ⌜ hardOf r ≡ inr (hardFlips (codeOf c) (now (bits .entry))) ⌝ }
+    requires { ⌜ Repairs (codeOf c) (now bits) (f .found) (f .count) (f .at) × (f .found ≡ true → Placed (c .n) (f .count) (f .at)) × ZeroFilled f ⌝ }
+    ensures { λ r. ⌜ hardOf r ≡ hardRecord (inr (hardStage (codeOf c) (now (bits .entry)))) ⌝ }
     ensures { λ _. ⌜ now (codeword .exit) ≡ hardWritten (codeOf c) (now (bits .entry)) (now (codeword .entry)) ⌝ }
 {
     let found = f.found;
     if !found {
-        return Hard::Lost;
+        return Hard {
+            case: HardCase::Lost,
+            count: 0,
+            at: [0usize; 3],
+        };
     }
     copy(bits, codeword);
     flip_at(codeword, 0, f);
-    Hard::Found(f.count)
+    let at = f.at;
+    Hard {
+        case: HardCase::Found,
+        count: f.count,
+        at: at,
+    }
 }
 
 // The hard stage, with room for its tables.
 fn decode_in(c: Code, tables: &mut [u32], bits: &[u8], codeword: &mut [u8]) -> Hard
     requires { ⌜ Made c × (3 * 2 ^ c .m + 16 ≤ length (now tables)) × Zeros (now tables) ⌝ }
     requires { ⌜ (length (now bits) ≡ c .n) × (length (now codeword) ≡ c .n) × Bits (now bits) ⌝ }
-    ensures { λ r. ⌜ hardOf r ≡ inr (hardFlips (codeOf c) (now (bits .entry))) ⌝ }
+    ensures { λ r. ⌜ hardOf r ≡ hardRecord (inr (hardStage (codeOf c) (now (bits .entry)))) ⌝ }
     ensures { λ _. ⌜ now (codeword .exit) ≡ hardWritten (codeOf c) (now (bits .entry)) (now (codeword .entry)) ⌝ }
 {
     tables::fill_field(c, tables);
@@ -132,7 +143,7 @@ fn decode_in(c: Code, tables: &mut [u32], bits: &[u8], codeword: &mut [u8]) -> H
 // The hard stage, with tables of its own, as large as m asks for.
 pub fn decode(c: Code, bits: &[u8], codeword: &mut [u8]) -> Hard
     requires { ⌜ Made c × (length (now bits) ≡ c .n) × (length (now codeword) ≡ c .n) × Bits (now bits) ⌝ }
-    ensures { λ r. ⌜ hardOf r ≡ inr (hardFlips (codeOf c) (now (bits .entry))) ⌝ }
+    ensures { λ r. ⌜ hardOf r ≡ hardRecord (inr (hardStage (codeOf c) (now (bits .entry)))) ⌝ }
     ensures { λ _. ⌜ now (codeword .exit) ≡ hardWritten (codeOf c) (now (bits .entry)) (now (codeword .entry)) ⌝ }
 {
     if c.m <= 6 {

@@ -1,9 +1,11 @@
 // The receiver of a BCH word (document 01, "Hard stage" and "Soft stage"; bounded-distance and soft-decision decoding).
 //
-//     match receiver::decode_hard(6, 2, 63, &bits, &mut codeword) {
-//         receiver::Hard::Found(flips) => { .. }      // the codeword is in the buffer
-//         receiver::Hard::Lost => { .. }              // no codeword within t flips: the buffer is as it was
-//         receiver::Hard::Refused(r) => { .. }        // r.number, r.place: the buffer is as it was
+//     let answer = receiver::decode_hard(6, 2, 63, &bits, &mut codeword);
+//     let case = answer.case;
+//     match case {
+//         receiver::HardCase::Found => { .. }         // the codeword is in the buffer, and answer.at has the answer.count flipped positions
+//         receiver::HardCase::Lost => { .. }          // no codeword within t flips: the buffer is as it was
+//         receiver::HardCase::Refused(r) => { .. }    // r.number, r.place: the buffer is as it was
 //     }
 //
 //     match receiver::decode_soft(6, 2, 63, 4, &symbols, &mut codeword) {
@@ -46,11 +48,19 @@ mod tables;
 mod test_words;
 mod weighing;
 
-// The hard stage's answer: a refusal, a word that is lost, or a codeword found with so many flips.
-pub enum Hard {
+// Which answer of the hard stage it is: a refusal, a word that is lost, or a codeword found.
+pub enum HardCase {
     Refused(Refusal),
     Lost,
-    Found(usize),
+    Found,
+}
+
+// The hard stage's answer: its case, and the flipped positions: their number, and three places in which they rise and unused ones are 0.
+// (A refusal and a lost word have none. The case stands beside the array, since an enum can't hold one.)
+pub struct Hard {
+    pub case: HardCase,
+    pub count: usize,
+    pub at: [usize; 3],
 }
 
 // Writes the codeword within t flips of n bits, where there is one. Any m, t, n, bits and buffer may be handed in.
@@ -59,7 +69,11 @@ pub fn decode_hard(m: usize, t: usize, n: usize, bits: &[u8], codeword: &mut [u8
     ensures { λ _. ⌜ now (codeword .exit) ≡ hardBuffer (code m t n) (now (bits .entry)) (now (codeword .entry)) ⌝ }
 {
     match refusal::of_word(m, t, n, bits, codeword.len()) {
-        Named::Refused(r) => Hard::Refused(r),
+        Named::Refused(r) => Hard {
+            case: HardCase::Refused(r),
+            count: 0,
+            at: [0usize; 3],
+        },
         Named::Code(c) => hard_stage::decode(c, bits, codeword),
     }
 }

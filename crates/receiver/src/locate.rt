@@ -16,7 +16,7 @@ ghost use mathlib.Core.Path.{_≡_};
 ghost use mathlib.Core.Logic.{_≢_};
 ghost use mathlib.Core.List.{[], _∷_};
 ghost use mathlib.Core.Option.{none, some};
-ghost use Prim.Native.Nat.{_+_, _-_, _*_, _/_, _%_, _<_, _≤_, _^_};
+ghost use Prim.Native.Nat.{_+_, _-_, _*_, _/_, _%_, _<_, _≤_, _^_, min, max};
 ghost use lib.Bits.{bitXor};
 ghost use lib.ListN.{length, getD};
 ghost use Rattle.bch.proofs.decoding.Elements.{ifZero};
@@ -24,13 +24,13 @@ ghost use Rattle.bch.proofs.decoding.KappaSums.{within};
 ghost use Rattle.bch.proofs.tables.CodeTables.{logIn, powersIn};
 ghost use Rattle.bch.proofs.logarithms.LogLocator.{pairIn, trioIn, cubesIn, kappaIn, locateIn};
 ghost use Rattle.bch.proofs.logarithms.LogBounds.{Syndromes};
-ghost use Rattle.receiver.specs.Located.{Located, AreSyndromes, Sought};
+ghost use Rattle.receiver.specs.Located.{Located, ZeroFilled, AreSyndromes, Sought};
 ghost use Rattle.receiver.specs.Tables.{Fielded, Filled};
 use crate::tables;
 use crate::test_words;
 use refusal::Code;
 
-// The positions to flip, where they are found: a count, and three places of which the unused are 0.
+// The positions to flip, where they are found: their number, and three places in which they rise and unused ones are 0.
 pub struct Flips {
     pub found: bool,
     pub count: usize,
@@ -86,40 +86,53 @@ fn one(c: Code, p: usize) -> Flips
     }
 }
 
-// Two positions, where both are.
+// The smaller of two positions, ..
+fn lesser(x: usize, y: usize) -> usize
+    ensures { λ r. ⌜ r ≡ min x y ⌝ }
+{
+    if x < y { x } else { y }
+}
+
+// .. and the larger.
+fn greater(x: usize, y: usize) -> usize
+    ensures { λ r. ⌜ r ≡ max x y ⌝ }
+{
+    if x < y { y } else { x }
+}
+
+// Two positions, where both are: the larger is looked at.
 fn two(c: Code, x: usize, y: usize) -> Flips
     ensures { λ r. ⌜ Located r (within (c .n) (x ∷ y ∷ [])) ⌝ }
 {
-    if c.n <= x {
+    let high = greater(x, y);
+    if c.n <= high {
         return lost();
     }
-    if c.n <= y {
-        return lost();
-    }
+    let low = lesser(x, y);
     Flips {
         found: true,
         count: 2,
-        at: [x, y, 0],
+        at: [low, high, 0],
     }
 }
 
-// Three positions, where all are.
+// Three positions, where all are: y and z are put in order, then x to them.
 fn three(c: Code, x: usize, y: usize, z: usize) -> Flips
     ensures { λ r. ⌜ Located r (within (c .n) (x ∷ y ∷ z ∷ [])) ⌝ }
 {
-    if c.n <= z {
+    let a = lesser(y, z);
+    let b = greater(y, z);
+    let rest = greater(x, a);
+    let high = greater(rest, b);
+    if c.n <= high {
         return lost();
     }
-    if c.n <= x {
-        return lost();
-    }
-    if c.n <= y {
-        return lost();
-    }
+    let low = lesser(x, a);
+    let middle = lesser(rest, b);
     Flips {
         found: true,
         count: 3,
-        at: [x, y, z],
+        at: [low, middle, high],
     }
 }
 
@@ -268,7 +281,7 @@ pub struct Spot {
 pub fn next(c: Code, tables: &[u32], tests: &[u64], made: usize) -> Spot
     requires { ⌜ Filled c (now tables) × AreSyndromes c (now tests) × (made ≤ length (now tests)) ⌝ }
     ensures { λ r. ⌜ Sought c (now (tables .entry)) (now (tests .entry)) made (r .tries) (r .flips) ⌝ }
-    ensures { λ r. ⌜ (length (r .flips .at) ≡ 3) × (r .flips .count ≤ 3) ⌝ }
+    ensures { λ r. ⌜ (length (r .flips .at) ≡ 3) × (r .flips .count ≤ 3) × ZeroFilled (r .flips) ⌝ }
 {
     let mut tries = made;
     while tries < tests.len() {

@@ -5,9 +5,9 @@ use borrow.Author.Needs.{needs}
 use lib.ListN.{length}
 use Rattle.bch.specs.Words.{Bits}
 use Rattle.bch.specs.Code.{code}
-use Rattle.bch.specs.Hard.{hardFlips, hardWritten}
+use Rattle.bch.specs.Hard.{hardStage, hardWritten, threePlaces}
 use Rattle.take_format.specs.Refusal.{bitsRefusal, hardRefusal}
-use Rattle.take_format.specs.Calls.{hardAnswer, hardBuffer}
+use Rattle.take_format.specs.Calls.{hardRecord, hardAnswer, hardBuffer}
 use Rattle.take_format.proofs.checks.RefusalLaws.{bits-accepted}
 use Rattle.take_format.proofs.checks.CallLaws.{answered-some, answered-none, buffer-some, buffer-none}
 use Rattle.refusal.specs.Named.{namedOf, codeOf, Made}
@@ -40,14 +40,14 @@ decode-requires c κs =
     (made (a .m) (a .t) (a .n) (h .isCode), h .long, h .room, h .are-bits)
 
 returns : tie.Need-returns
-unfolding bitsRefusal hardOf hardAnswer hardBuffer
+unfolding bitsRefusal hardOf hardRecord threePlaces hardAnswer hardBuffer
 returns c =
     let a = c .before .before .before .before .before .before .args in
     let w = code (a .m) (a .t) (a .n) in
     let old = a .codeword .now in
     let g = c .before .r .given in
     let refused = named-refused (g .0 .0) (hardRefusal w (a .bits .now) old) _ (sym (ap namedOf (g .1)) ∙ c .before .before .before .of-word .ensures) in
-    (answered-some _ _ (hardFlips w (a .bits .now)) refused, buffer-some _ _ old (hardWritten w (a .bits .now) old) refused)
+    (ap hardRecord (answered-some _ _ (hardStage w (a .bits .now)) refused), buffer-some _ _ old (hardWritten w (a .bits .now) old) refused)
 
 same-length : tie.Need-same-length
 same-length c = search needs
@@ -63,7 +63,7 @@ returns-2 c =
     let (ok, e) = named-code (g .0 .0) (hardRefusal w xs old) w
     (sym (ap namedOf (g .1)) ∙ c .before .before .before .before .before .before .before .of-word .ensures) in
     let d = c .before .before .decode .ensures in (
-      d .0 ∙ ap (λ (k : struct.Code). inr (hardFlips (codeOf k) xs)) e ∙ answered-none _ (hardFlips w xs) ok,
+      d .0 ∙ ap (λ (k : struct.Code). hardRecord (inr (hardStage (codeOf k) xs))) e ∙ ap hardRecord (answered-none _ (hardStage w xs) ok),
       d .1 ∙ ap (λ (k : struct.Code). hardWritten (codeOf k) xs old) e ∙ buffer-none _ old (hardWritten w xs old) ok,
     )
 

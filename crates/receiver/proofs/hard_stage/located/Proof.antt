@@ -3,11 +3,12 @@ use Prim.Native.Nat.{ℕ, _%_, _<_}
 use native.Mathlib.Omega.{arith}
 use mathlib.Core.Path.{_≡_, ap, sym, _∙_, subst}
 use mathlib.Core.List.{[], _∷_}
-use lib.ListN.{getD}
+use lib.ListN.{length, getD}
+use Rattle.bch.proofs.tables.Placing.{length-three}
 use Rattle.bch.proofs.logarithms.FewRepairs.{few-repairs, few-placed}
 use Rattle.bch.proofs.logarithms.LogAnswers.{repairs-in, found-placed}
 use Rattle.bch.proofs.logarithms.LogBounds.{Syndromes}
-use Rattle.bch.proofs.logarithms.LogLocator.{locateIn}
+use Rattle.bch.proofs.logarithms.LogLocator.{risingIn}
 use Rattle.bch.proofs.logarithms.Seeking.{next-one}
 use Rattle.refusal.specs.Named.{codeOf}
 use Rattle.receiver.proofs.hard_stage.located.Statement.{statement}
@@ -44,7 +45,10 @@ returns c =
     let at-most-one = sym (c .before .before .before .rest-of .ensures) ∙ c .before .before .if1 .taken in
     λ xs long bits is. (
       few-repairs (codeOf k) (f .made .lawful) _ (f .field) xs long bits _ is at-most-one (r .found) (r .count) (r .at) (e .0),
-      λ z. few-placed (k .n) _ _ (r .found) (r .count) (r .at) (e .0) z (e .2) (e .1),
+      λ z.
+          few-placed (codeOf k) (f .made .lawful) _ (f .field) xs long bits _ is at-most-one (r .found) (r .count) (r .at) (e .0) z (e .2)
+          (ap length (e .1) ∙ length-three _),
+      e .1,
     )
 
 fill-roots-requires : tie.Need-fill-roots-requires
@@ -69,10 +73,11 @@ returns-2 c =
     let t = c .before .before .before .before .before .before .fill-roots .ensures .tables in
     let f = c .before .next in
     let r = f .result .flips in
-    let e = next-one _ _ _ _ _ (f .ensures .0) ∙ ap (locateIn (k .m) (k .t) (k .n) _) (sym (low (s .args .s) (omega arith))) in
+    let e = next-one _ _ _ _ _ (f .ensures .0) ∙ ap (risingIn (k .m) (k .t) (k .n) _) (sym (low (s .args .s) (omega arith))) in
     λ xs long bits is. (
       repairs-in k lawful _ t xs long bits _ is (r .found) (r .count) (r .at) e,
       λ z. found-placed k lawful _ t xs long bits _ is (r .found) (r .count) (r .at) e z (f .ensures .1 .1) (f .ensures .1 .0),
+      f .ensures .1 .2,
     )
 
 pub located-spec : {M : Type 1} → statement M

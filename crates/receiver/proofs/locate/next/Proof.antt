@@ -6,8 +6,8 @@ use mathlib.Core.Bool.{Bool, true, false}
 use mathlib.Core.List.{List}
 use mathlib.Core.Option.{none}
 use lib.ListN.{length}
-use Rattle.bch.proofs.tables.Placing.{positions}
-use Rattle.bch.proofs.logarithms.LogLocator.{locateIn}
+use Rattle.bch.proofs.tables.Placing.{positions, length-three}
+use Rattle.bch.proofs.logarithms.LogLocator.{risingIn}
 use Rattle.bch.proofs.logarithms.Seeking.{Missed, missed-more, next-there, next-none}
 use Rattle.receiver.specs.Located.{locatedAt}
 use borrow.Author.Needs.{needs}
@@ -51,10 +51,10 @@ returns c =
     let a = c .before .before .before .before .before .before .before .before .args in
     let l = c .before .before .before .before .before .loop in
     let f = c .before .locate in
-    let e = f .ensures .0 ∙ ap (locateIn (a .c .m) (a .c .t) (a .c .n) (a .tables .now)) (c .before .before .syndromes-in .ensures) in (
+    let e = f .ensures .0 ∙ ap (risingIn (a .c .m) (a .c .t) (a .c .n) (a .tables .now)) (c .before .before .syndromes-in .ensures) in (
       next-there (locatedAt (a .c) (a .tables .now) (a .tests .now)) (a .made) (length (a .tests .now)) (f .result .found) (f .result .count) (f .result .at)
           (l .tries) (l .inv .0) (omega arith) (l .inv .2) e (c .if1 .taken),
-      (f .ensures .1, f .ensures .2),
+      (ap length (f .ensures .1) ∙ length-three _, f .ensures .2, f .ensures .1),
     )
 
 loop-less : tie.Need-loop-less Inv-loop μ-loop
@@ -65,7 +65,7 @@ loop-again c =
     let a = c .before .before .before .before .before .before .before .before .args in
     let l = c .before .before .before .before .before .loop in
     let f = c .before .locate in
-    let e = f .ensures .0 ∙ ap (locateIn (a .c .m) (a .c .t) (a .c .n) (a .tables .now)) (c .before .before .syndromes-in .ensures) in (
+    let e = f .ensures .0 ∙ ap (risingIn (a .c .m) (a .c .t) (a .c .n) (a .tables .now)) (c .before .before .syndromes-in .ensures) in (
       omega arith,
       omega arith,
       missed-more (locatedAt (a .c) (a .tables .now) (a .tests .now)) (a .made) (length (a .tests .now)) (f .result .found) (f .result .count) (f .result .at)
@@ -83,7 +83,7 @@ returns-2 c =
     let none-found = lost-found (f .result .found) (f .result .count) (f .result .at) (f .ensures .0) in (
       next-none (locatedAt (a .c) (a .tables .now) (a .tests .now)) (a .made) (length (a .tests .now)) (f .result .found) (f .result .count) (f .result .at)
           (l .tries) (l .inv .0) (l .inv .1) (omega arith) (l .inv .2) none-found,
-      (f .ensures .1, f .ensures .2),
+      (ap length (f .ensures .1) ∙ length-three _, f .ensures .2, f .ensures .1),
     )
 
 pub next-spec : {M : Type 1} → statement M

@@ -2,6 +2,7 @@
 use mathlib.Core.Path.{refl, _∙_}
 use native.Mathlib.Omega.{arith}
 use borrow.Author.Needs.{needs}
+use Rattle.bch.specs.Hard.{threePlaces}
 use Rattle.bch.proofs.tables.Placing.{positions}
 use Rattle.bch.proofs.logarithms.LogSteps.{one-lost, one-found}
 use Rattle.receiver.proofs.locate.one.Statement.{statement}
@@ -16,7 +17,7 @@ returns c =
     (c .lost .ensures .0 ∙ one-lost (a .c .n) (a .p) (c .before .if1 .taken), c .lost .ensures .1, c .lost .ensures .2)
 
 returns-2 : tie.Need-returns-2
-unfolding positions
+unfolding positions threePlaces
 returns-2 c = let a = c .before .before .args in (one-found (a .c .n) (a .p) (omega arith), refl, omega arith)
 
 pub one-spec : {M : Type 1} → statement M

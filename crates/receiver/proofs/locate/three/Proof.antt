@@ -1,51 +1,65 @@
--- The three positions, where all are in the word. Assumes nothing.
+-- The three positions in order, where all are in the word. Assumes nothing.
 use mathlib.Core.Path.{refl, _∙_}
 use native.Mathlib.Omega.{arith}
 use borrow.Author.Needs.{needs}
+use Rattle.bch.specs.Hard.{threePlaces}
 use Rattle.bch.proofs.tables.Placing.{positions}
-use Rattle.bch.proofs.logarithms.LogSteps.{first-lost, second-lost, third-lost, two-found, three-found}
-use mathlib.Core.List.{[], _∷_}
+use Rattle.bch.proofs.logarithms.LogSteps.{three-lost, three-found}
 use Rattle.receiver.proofs.locate.three.Statement.{statement}
 use Rattle.receiver.proofs.locate.three.Tie as tie
+
+lesser-requires : tie.Need-lesser-requires
+lesser-requires c κs = search needs
+
+greater-requires : tie.Need-greater-requires
+greater-requires c κs = search needs
+
+greater-requires-2 : tie.Need-greater-requires-2
+greater-requires-2 c κs = search needs
+
+greater-requires-3 : tie.Need-greater-requires-3
+greater-requires-3 c κs = search needs
 
 lost-requires : tie.Need-lost-requires
 lost-requires c κs = search needs
 
 returns : tie.Need-returns
 returns c =
-    let s = c .before .before .before in
-    let a = s .args in
-    (c .lost .ensures .0 ∙ third-lost (a .c .n) (a .x) (a .y) (a .z) (c .before .if1 .taken), c .lost .ensures .1, c .lost .ensures .2)
+    let g = c .before .before .before in
+    let f = g .before .before .before in
+    let a = f .before .args in
+    let q =
+    three-lost (a .c .n) (a .x) (a .y) (a .z) _ _ _ (f .lesser .ensures) (g .before .before .greater .ensures) (g .before .greater2 .ensures) _
+    (g .greater3 .ensures) (c .before .if1 .taken) in
+    (c .lost .ensures .0 ∙ q, c .lost .ensures .1, c .lost .ensures .2)
 
-lost-requires-2 : tie.Need-lost-requires-2
-lost-requires-2 c κs = search needs
+lesser-requires-2 : tie.Need-lesser-requires-2
+lesser-requires-2 c κs = search needs
+
+lesser-requires-3 : tie.Need-lesser-requires-3
+lesser-requires-3 c κs = search needs
 
 returns-2 : tie.Need-returns-2
+unfolding positions threePlaces
 returns-2 c =
-    let s = c .before .before .before .before .before in
-    let a = s .args in
-    (c .lost2 .ensures .0 ∙ first-lost (a .c .n) (a .x) (a .y ∷ a .z ∷ []) (c .before .if2 .taken), c .lost2 .ensures .1, c .lost2 .ensures .2)
-
-lost-requires-3 : tie.Need-lost-requires-3
-lost-requires-3 c κs = search needs
-
-returns-3 : tie.Need-returns-3
-returns-3 c =
-    let s = c .before .before .before .before .before .before .before in
-    let a = s .args in (
-      c .lost3 .ensures .0 ∙ second-lost (a .c .n) (a .x) (a .y) (a .z ∷ []) (omega arith) (c .before .if3 .taken),
-      c .lost3 .ensures .1,
-      c .lost3 .ensures .2,
-    )
-
-returns-4 : tie.Need-returns-4
-unfolding positions
-returns-4 c =
-    let s = c .before .before .before .before .before .before in
-    let a = s .args in
-    (three-found (a .c .n) (a .x) (a .y) (a .z) (omega arith) (two-found (a .c .n) (a .x) (a .y) (omega arith) (omega arith)), refl, omega arith)
+    let g = c .before .before .before .before in
+    let f = g .before .before .before in
+    let a = f .before .args in
+    let q =
+    three-found (a .c .n) (a .x) (a .y) (a .z) _ _ _ (f .lesser .ensures) (g .before .before .greater .ensures) (g .before .greater2 .ensures) _
+    (g .greater3 .ensures) _ _ (c .before .lesser2 .ensures) (c .lesser3 .ensures) (c .before .before .if1 .left) in
+    (q, refl, omega arith)
 
 pub three-spec : {M : Type 1} → statement M
 three-spec =
     tie.close
-    (tie.spec lost-requires returns lost-requires-2 returns-2 lost-requires-3 returns-3 returns-4)
+    (tie.spec
+    lesser-requires
+    greater-requires
+    greater-requires-2
+    greater-requires-3
+    lost-requires
+    returns
+    lesser-requires-2
+    lesser-requires-3
+    returns-2)
