@@ -3,21 +3,25 @@ use Prim.Native.Nat.{ℕ, _*_, _^_, _≤_, _<_}
 use native.Mathlib.Omega.{arith}
 use native.Mathlib.Nat.{mul-le-mul-left}
 use lib.Ieee.{Float}
-use lib.ListN.{getD}
+use lib.ListN.{length, getD}
 use lib.Pow.{pow-mono}
 use lib.Signed.{mag}
-use mathlib.Core.Path.{_≡_, refl, sym, ap, _∙_}
+use mathlib.Core.Path.{_≡_, refl, sym, ap, _∙_, subst}
 use mathlib.Core.Logic.{_⊎_, inl, inr}
-use mathlib.Core.List.{List}
-use mathlib.Core.Option.{Option, none, some, Option·map}
+use mathlib.Core.List.{List, []}
+use mathlib.Core.Option.{Option, none, some}
 use Rattle.bch.specs.Code.{Code, wordLength}
-use Rattle.bch.specs.Hard.{Repair, hardStage, hardFlips}
+use Rattle.bch.specs.Hard.{Repair, hardStage}
+use Rattle.bch.specs.Words.{Below}
+use Rattle.bch.proofs.codes.Entries.{below-wider}
 use Rattle.bch.proofs.codes.Settings.{lawful}
-use Rattle.bch.proofs.codes.HardLaws.{hard-found}
+use Rattle.bch.proofs.codes.HardLaws.{hard-found, hard-flipped}
+use Rattle.bch.proofs.decoding.Sorting.{rising-distinct, distinct-below}
+use Rattle.bch.proofs.tables.Placing.{length-three, three-below}
 use Rattle.chase.specs.Soft.{Answer, softStage}
 use Rattle.chase.proofs.weighing.Sizes.{soft-small}
 use Rattle.take_format.specs.Refusal.{Refusal, hardRefusal, softRefusal}
-use Rattle.take_format.specs.Calls.{hardAnswer, softAnswer, ladderAnswer}
+use Rattle.take_format.specs.Calls.{answered, HardCase, refused, lost, found, HardAnswer, flippedIn, hardRecord, hardAnswer, softAnswer, ladderAnswer}
 use Rattle.take_format.specs.Batch.{Totals}
 use Rattle.take_format.specs.Samples.{ladderCheck}
 use Rattle.take_format.specs.Take.{number16, header, openAnswer, takeAnswer}
@@ -36,9 +40,19 @@ use Rattle.take_format.proofs.checks.Numbers.{Numbered, numbered-bits, numbered
 pub number-small : (o : Option Refusal) → IfRefused Numbered o → (r : Refusal) → some r ≡ o → r .number < 128
 number-small o f r e = omega (arith, f r (sym e) .1)
 
-pub hard-number : (c : Code) (bits codeword : List ℕ) (r : Refusal) → inl r ≡ hardAnswer c bits codeword → r .number < 128
+record-number : (o : Option Refusal) (s : Option Repair) (r : Refusal) → IfRefused Numbered o → hardRecord (answered o s) .case ≡ refused r
+    → r .number < 128
+unfolding hardRecord answered
+record-number (some q) s r f e = let w : r ≡ q = cc in rw w (number-small (some q) f q refl)
+record-number none none r f e = absurd (let z : _≡_ {A = ℕ} 0 1 = cc in omega arith)
+record-number none (some s) r f e = absurd (let z : _≡_ {A = ℕ} 0 1 = cc in omega arith)
+
+pub hard-number : (c : Code) (bits codeword : List ℕ) (h : HardAnswer) (r : Refusal) → h ≡ hardAnswer c bits codeword → h .case ≡ refused r
+    → r .number < 128
 unfolding hardAnswer
-hard-number c bits codeword r e = number-small _ (numbered-bits c (wordLength c) bits codeword) r (answered-inl _ _ r e)
+hard-number c bits codeword h r e k =
+    record-number (hardRefusal c bits codeword) (hardStage c bits) r (numbered-bits c (wordLength c) bits codeword)
+    (sym (ap (λ (x : HardAnswer). x .case) e) ∙ k)
 
 soft-number : (c : Code) (p : ℕ) (symbols codeword : List ℕ) (r : Refusal) → inl r ≡ softAnswer c p symbols codeword → r .number < 128
 unfolding softAnswer
@@ -66,20 +80,37 @@ pub take-number : (bs messages marks : List ℕ) (r : Refusal) → inl r ≡ tak
 unfolding takeAnswer
 take-number bs messages marks r e = number-small _ (numbered-take bs messages marks) r (answered-inl _ _ r e)
 
--- the hard stage flips at most three positions
-pub flips-small : (c : Code) (bits codeword : List ℕ) (q : ℕ) → inr (some q) ≡ hardAnswer c bits codeword → q ≤ 3
-unfolding hardAnswer hardFlips
-flips-small c bits codeword q e =
-    let (n, f) = answered-inr (hardRefusal c bits codeword) (hardFlips c bits) (some q) e in
-    go (bits-accepted c (wordLength c) bits codeword (sym n)) (hardStage c bits) refl f
-  where
-    go : BitsAccepted c (wordLength c) bits codeword → (o : Option Repair) → hardStage c bits ≡ o
-        → some q ≡ Option·map (λ (r : Repair). r .flips) o → q ≤ 3
-    go ok none s f = let z : _≡_ {A = ℕ} 0 1 = cc in absurd (omega arith)
-    go ok (some r) s f =
-        let (v, h, k) = hard-found c (lawful c (ok .isCode)) bits (ok .long) (ok .are-bits) r .0 s in
-        let w : q ≡ r .flips = cc in
-        omega (arith, h, k, w, ok .isCode .t-most)
+-- the numbers of the hard stage's record
+pub record Flipped (h : HardAnswer) : Type 0 where
+  pub count : h .count < 256
+  pub long : length (h .places) ≡ 3
+  pub inside : (i : ℕ) → getD (h .places) i 0 < 65536
+
+flipped-room : (k : HardCase) (P : List ℕ) → length P ≤ 3 → Below 65536 P → Flipped (flippedIn k P)
+unfolding flippedIn
+flipped-room k P few below = record { count = omega arith; long = length-three P; inside = three-below 65535 P below }
+
+module _ (c : Code) (bits codeword : List ℕ) where
+  record-room : (o : Option Refusal) (s : Option Repair) → (o ≡ none → BitsAccepted c (wordLength c) bits codeword) → hardStage c bits ≡ s
+      → Flipped (hardRecord (answered o s))
+  unfolding hardRecord answered Below
+  record-room (some r) s f e = flipped-room (refused r) [] (omega arith) tt
+  record-room none none f e = flipped-room lost [] (omega arith) tt
+  record-room none (some r) f e =
+      let ok = f refl in
+      let l = lawful c (ok .isCode) in
+      let (v, near, q) = hard-found c l bits (ok .long) (ok .are-bits) r .0 e in
+      let (many, rise, back) = hard-flipped c l bits (ok .long) (ok .are-bits) r e in
+      let size : 2 ^ c .m ≤ 2 ^ 8 = pow-mono (ok .isCode .m-most) in
+      let below = distinct-below (c .n) (r .flipped) (rising-distinct 0 (c .n) (r .flipped) rise) in
+      flipped-room found (r .flipped) (omega (arith, many, near, ok .isCode .t-most))
+      (below-wider (c .n) 65536 (r .flipped) (omega (arith, ok .isCode .n-most)) below)
+
+  -- the hard stage flips at most three positions, of a word
+  pub hard-room : (h : HardAnswer) → h ≡ hardAnswer c bits codeword → Flipped h
+  unfolding hardAnswer
+  hard-room h e =
+      subst Flipped (sym e) (record-room (hardRefusal c bits codeword) (hardStage c bits) (bits-accepted c (wordLength c) bits codeword) refl)
 
 -- the numbers of the soft stage's answer
 pub record Room (a : Answer) : Type 0 where

@@ -1,16 +1,16 @@
 -- Every field of a packed answer is read back as it was, by division and remainder, and the number has 64 bits. Assumes nothing.
-use Prim.Native.Nat.{ℕ, _+_, _-_, _/_, _%_, _^_, _<_}
+use Prim.Native.Nat.{ℕ, _+_, _-_, _*_, _/_, _%_, _^_, _<_}
 use native.Mathlib.Omega.{arith}
-use mathlib.Core.Path.{_≡_}
-use mathlib.Core.Logic.{inr}
-use mathlib.Core.Option.{none, some}
+use mathlib.Core.Path.{_≡_, refl}
+use lib.ListN.{getD}
 use Rattle.chase.specs.Soft.{Mark, lost, fair, sure, Answer}
 use Rattle.take_format.specs.Refusal.{Refusal}
+use Rattle.take_format.specs.Calls.{HardAnswer, found, lost as lost·hard}
 use Rattle.take_format.specs.Batch.{markByte, Totals}
 use Rattle.take_format.specs.Take.{Header}
 use Rattle.receiver_c.specs.Packed.{refusalPacked, hardPacked, marginPacked, answerPacked, headerPacked, totalsPacked}
 use Rattle.receiver_c.proofs.Raised.{margin-lt}
-use Rattle.receiver_c.proofs.Sizes.{Room}
+use Rattle.receiver_c.proofs.Sizes.{Flipped, Room}
 
 -- a refusal
 module _ (r : Refusal) (small : r .number < 128) where
@@ -27,22 +27,36 @@ module _ (r : Refusal) (small : r .number < 128) where
   refusal-bits = omega arith
 
 -- an answer of the hard stage
-pub hard-lost : hardPacked (inr none) % 2 ^ 8 ≡ 0
-unfolding hardPacked
-hard-lost = omega arith
-
-module _ (q : ℕ) (small : q < 256) where
-  pub hard-found : hardPacked (inr (some q)) % 2 ^ 8 ≡ 1
+module _ (h : HardAnswer) (room : Flipped h) where
+  pub hard-lost : h .case ≡ lost·hard → hardPacked h ≡ 0
   unfolding hardPacked
-  hard-found = omega arith
+  hard-lost e = rw e refl
 
-  pub hard-flips : hardPacked (inr (some q)) / 2 ^ 8 ≡ q
-  unfolding hardPacked
-  hard-flips = omega arith
+  module _ (e : h .case ≡ found) where
+    abbrev at : ℕ → ℕ
+    at i = getD (h .places) i 0
 
-  pub hard-bits : hardPacked (inr (some q)) < 2 ^ 64
-  unfolding hardPacked
-  hard-bits = omega arith
+    number : hardPacked h ≡ 1 + 2 ^ 8 * h .count + 2 ^ 16 * at 0 + 2 ^ 32 * at 1 + 2 ^ 48 * at 2
+    unfolding hardPacked
+    number = rw e refl
+
+    pub hard-found : hardPacked h % 2 ^ 8 ≡ 1
+    hard-found = omega (arith, number)
+
+    pub hard-count : hardPacked h / 2 ^ 8 % 2 ^ 8 ≡ h .count
+    hard-count = omega (arith, number, room .count)
+
+    pub hard-first : hardPacked h / 2 ^ 16 % 2 ^ 16 ≡ at 0
+    hard-first = omega (arith, number, room .count, room .inside 0)
+
+    pub hard-second : hardPacked h / 2 ^ 32 % 2 ^ 16 ≡ at 1
+    hard-second = omega (arith, number, room .count, room .inside 0, room .inside 1)
+
+    pub hard-third : hardPacked h / 2 ^ 48 ≡ at 2
+    hard-third = omega (arith, number, room .count, room .inside 0, room .inside 1)
+
+    pub hard-bits : hardPacked h < 2 ^ 64
+    hard-bits = omega (arith, number, room .count, room .inside 0, room .inside 1, room .inside 2)
 
 -- an answer of the soft stage
 mark-lt : (m : Mark) → markByte m < 3

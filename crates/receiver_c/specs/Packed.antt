@@ -7,9 +7,10 @@ use mathlib.Core.List.{List, [], _∷_}
 use mathlib.Core.Option.{Option, none, some}
 use lib.Ieee.{Float}
 use lib.IntN.{ℤ, pos, negsuc}
+use lib.ListN.{getD}
 use Rattle.chase.specs.Soft.{Answer}
 use Rattle.take_format.specs.Refusal.{Refusal, firstOf}
-use Rattle.take_format.specs.Calls.{unlessRefused}
+use Rattle.take_format.specs.Calls.{HardAnswer, refused, lost, found, unlessRefused}
 use Rattle.take_format.specs.Batch.{markByte, Totals}
 use Rattle.take_format.specs.Take.{Header}
 use Rattle.take_format.specs.Samples.{ladderCheck, samplesRefusal, quantised}
@@ -25,12 +26,15 @@ unfolding refusalPacked
 checkPacked none = 0
 checkPacked (some r) = refusalPacked r
 
--- the hard stage: 0 lost, or 1 and the number of flips
-unfoldable pub hardPacked : Refusal ⊎ Option ℕ → ℕ
+-- the hard stage: 0 lost; or 1, the number of flips, a byte, and the three places of the flipped positions, each two bytes
+unfoldable pub hardPacked : HardAnswer → ℕ
 unfolding refusalPacked
-hardPacked (inl r) = refusalPacked r
-hardPacked (inr none) = 0
-hardPacked (inr (some q)) = 1 + 2 ^ 8 * q
+hardPacked h =
+    elim (h .case) [
+      | refused r ↦ refusalPacked r
+      | lost ↦ 0
+      | found ↦ 1 + 2 ^ 8 * h .count + 2 ^ 16 * getD (h .places) 0 0 + 2 ^ 32 * getD (h .places) 1 0 + 2 ^ 48 * getD (h .places) 2 0
+    ]
 
 -- a margin: 2^15 more than it is, so that it is no less than 0
 unfoldable pub marginPacked : ℤ → ℕ

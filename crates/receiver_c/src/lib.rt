@@ -10,7 +10,7 @@ ghost use Rattle.take_format.specs.Take.{openAnswer, takeAnswer, takeMessages, 
 ghost use Rattle.receiver_c.specs.Packed.{checkPacked, hardPacked, softPacked, openPacked, takePacked, quantiseRefusal, quantiseBuffer, Promised};
 use encoder::Encoded;
 use quantiser::Made;
-use receiver::Hard;
+use receiver::HardCase;
 use receiver::Soft;
 use receiver::Words;
 use refusal::Check;
@@ -48,10 +48,13 @@ pub extern "C" fn receiver_decode_hard_packed(
     ensures { λ r. ⌜ r ≡ hardPacked (hardAnswer (code m t n) (now (bits .entry)) (now (codeword .entry))) ⌝ }
     ensures { λ _. ⌜ now (codeword .exit) ≡ hardBuffer (code m t n) (now (bits .entry)) (now (codeword .entry)) ⌝ }
 {
-    match receiver::decode_hard(m, t, n, bits, codeword) {
-        Hard::Refused(r) => packed::refusal(r),
-        Hard::Lost => 0,
-        Hard::Found(flips) => 1 + 256 * (flips as u64),
+    let answer = receiver::decode_hard(m, t, n, bits, codeword);
+    let at = answer.at;
+    let case = answer.case;
+    match case {
+        HardCase::Refused(r) => packed::refusal(r),
+        HardCase::Lost => 0,
+        HardCase::Found => packed::found(answer.count, at[0], at[1], at[2]),
     }
 }
 

@@ -28,6 +28,15 @@ pub fn refusal(r: Refusal) -> u64
     128 + r.number as u64 + 256 * place(r.place)
 }
 
+// A codeword found: how many positions are flipped, and three places.
+pub fn found(count: usize, first: usize, second: usize, third: usize) -> u64
+    requires { ⌜ (count < 256) × (first < 65536) × (second < 65536) × (third < 65536) ⌝ }
+    ensures { λ p. ⌜ p ≡ 1 + 2 ^ 8 * count + 2 ^ 16 * first + 2 ^ 32 * second + 2 ^ 48 * third ⌝ }
+{
+    let low = 1 + 256 * (count as u64) + 65536 * (first as u64);
+    low + 4294967296 * (second as u64) + 281474976710656 * (third as u64)
+}
+
 // A margin, which is no less than 0 when 2^15 is added.
 fn raised(x: i32) -> u64
     requires { ⌜ mag x < 32768 ⌝ }
