@@ -1,5 +1,7 @@
 // Answers on standard output: a word first, then numbers and buffers, each behind a space.
 use libc::STDOUT_FILENO;
+use receiver::Hard;
+use receiver::HardCase;
 use receiver::Soft;
 use receiver::Totals;
 use refusal::Refusal;
@@ -61,6 +63,32 @@ pub fn refused(refusal: Refusal) {
     text(b"refused");
     number(refusal.number);
     number(refusal.place);
+}
+
+// Writes which answer of the hard stage it is.
+fn case(which: HardCase) {
+    match which {
+        HardCase::Refused(r) => {
+            refused(r);
+        }
+        HardCase::Lost => {
+            text(b"lost");
+        }
+        HardCase::Found => {
+            text(b"found");
+        }
+    }
+}
+
+// Writes the hard stage's answer: the case, how many positions it flipped, and the three places.
+pub fn hard(answer: Hard) {
+    let which = answer.case;
+    case(which);
+    number(answer.count);
+    let at = answer.at;
+    number(at[0]);
+    number(at[1]);
+    number(at[2]);
 }
 
 // Writes the numbers of a codeword that was found.

@@ -2,7 +2,6 @@
 use crate::fields;
 use crate::print;
 use encoder::Encoded;
-use receiver::Hard;
 use receiver::Totals;
 
 // The longest word that a record may have.
@@ -43,18 +42,7 @@ pub fn hard(line: &[u8]) {
 // Decodes bits into the buffer, and prints the answer.
 fn hard_to(line: &[u8], bits: &[u8], codeword: &mut [u8]) {
     let code = fields::settings(line);
-    match receiver::decode_hard(code.m, code.t, code.n, bits, codeword) {
-        Hard::Refused(r) => {
-            print::refused(r);
-        }
-        Hard::Lost => {
-            print::text(b"lost");
-        }
-        Hard::Found(flips) => {
-            print::text(b"found");
-            print::number(flips);
-        }
-    }
+    print::hard(receiver::decode_hard(code.m, code.t, code.n, bits, codeword));
     print::last(codeword);
 }
 
