@@ -11,7 +11,8 @@
 // worked out: that E and the moved locator are those of document 01 are the laws `e5-is` and `moved-is` (bch `decoding`).
 //
 // What is found are roots by how the tables were filled (`trio-sums`), so that their sums need not be held to the syndromes; only positions at
-// or beyond n are refused.
+// or beyond n are refused. They are handed on in rising order, to both stages: to order them costs a deep search nothing that can be measured,
+// since then only the last is held to n.
 ghost use mathlib.Core.Path.{_≡_};
 ghost use mathlib.Core.Logic.{_≢_};
 ghost use mathlib.Core.List.{[], _∷_};
@@ -100,7 +101,7 @@ fn greater(x: usize, y: usize) -> usize
     if x < y { y } else { x }
 }
 
-// Two positions, where both are: the larger is looked at.
+// Two positions in order, where both are: the larger is held to n.
 fn two(c: Code, x: usize, y: usize) -> Flips
     ensures { λ r. ⌜ Located r (within (c .n) (x ∷ y ∷ [])) ⌝ }
 {
@@ -116,23 +117,23 @@ fn two(c: Code, x: usize, y: usize) -> Flips
     }
 }
 
-// Three positions, where all are: y and z are put in order, then x to them.
+// Three positions in order, where all are: y and z are ordered, and then x is put to them.
 fn three(c: Code, x: usize, y: usize, z: usize) -> Flips
     ensures { λ r. ⌜ Located r (within (c .n) (x ∷ y ∷ z ∷ [])) ⌝ }
 {
     let a = lesser(y, z);
     let b = greater(y, z);
     let rest = greater(x, a);
-    let high = greater(rest, b);
-    if c.n <= high {
+    let highest = greater(rest, b);
+    if c.n <= highest {
         return lost();
     }
-    let low = lesser(x, a);
+    let lowest = lesser(x, a);
     let middle = lesser(rest, b);
     Flips {
         found: true,
         count: 3,
-        at: [low, middle, high],
+        at: [lowest, middle, highest],
     }
 }
 
