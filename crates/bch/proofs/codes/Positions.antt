@@ -8,7 +8,7 @@ use mathlib.Core.Bool.{Bool, true, false, cond}
 use mathlib.Core.List.{List, [], _∷_, map, List·Memᴰ, List·Memᴰ·head, List·Memᴰ·tail}
 use borrow.Author.Tests.{le-ltb}
 use lib.Bits.{bitXor, xor-self}
-use lib.Dec.{eqb, ltb}
+use lib.Dec.{eqb}
 use lib.ListN.{length, length-map}
 use Rattle.galois.specs.Field.{alpha, mul}
 use Rattle.galois.proofs.Xor.{bit-cases, xor-swap, xor-bits-mul}

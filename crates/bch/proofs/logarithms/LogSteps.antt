@@ -1,4 +1,4 @@
--- The locator by logarithms as a function computes it: each way out of each branch. Assumes nothing.
+-- The locator by logarithms as a function computes it, its positions put in order: each way out of each branch. Assumes nothing.
 use Prim.Native.Nat.{ℕ, _+_, _-_, _*_, _/_, _%_, _^_, _≤_, _<_, min, max}
 use native.Mathlib.Omega.{arith}
 use mathlib.Core.Path.{_≡_, refl, sym, ap, ap₂, _∙_}

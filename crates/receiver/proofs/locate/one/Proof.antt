@@ -14,7 +14,7 @@ lost-requires c κs = search needs
 returns : tie.Need-returns
 returns c =
     let a = c .before .before .before .args in
-    (c .lost .ensures .0 ∙ one-lost (a .c .n) (a .p) (c .before .if1 .taken), c .lost .ensures .1, c .lost .ensures .2)
+    (c .lost .ensures .0 ∙ one-lost (a .c .n) (a .p) (omega (arith, c .before .if1 .taken)), c .lost .ensures .1, c .lost .ensures .2)
 
 returns-2 : tie.Need-returns-2
 unfolding positions threePlaces

@@ -28,10 +28,11 @@ returns c =
     let g = c .before .before .before in
     let f = g .before .before .before in
     let a = f .before .args in
+    let e = c .lost .ensures in
     let q =
     three-lost (a .c .n) (a .x) (a .y) (a .z) _ _ _ (f .lesser .ensures) (g .before .before .greater .ensures) (g .before .greater2 .ensures) _
-    (g .greater3 .ensures) (c .before .if1 .taken) in
-    (c .lost .ensures .0 ∙ q, c .lost .ensures .1, c .lost .ensures .2)
+    (g .greater3 .ensures) (omega (arith, c .before .if1 .taken)) in
+    (e .0 ∙ q, e .1, e .2)
 
 lesser-requires-2 : tie.Need-lesser-requires-2
 lesser-requires-2 c κs = search needs
@@ -47,7 +48,7 @@ returns-2 c =
     let a = f .before .args in
     let q =
     three-found (a .c .n) (a .x) (a .y) (a .z) _ _ _ (f .lesser .ensures) (g .before .before .greater .ensures) (g .before .greater2 .ensures) _
-    (g .greater3 .ensures) _ _ (c .before .lesser2 .ensures) (c .lesser3 .ensures) (c .before .before .if1 .left) in
+    (g .greater3 .ensures) _ _ (c .before .lesser2 .ensures) (c .lesser3 .ensures) (omega (arith, c .before .before .if1 .left)) in
     (q, refl, omega arith)
 
 pub three-spec : {M : Type 1} → statement M

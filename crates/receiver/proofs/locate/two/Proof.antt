@@ -17,7 +17,9 @@ lost-requires c κs = search needs
 returns : tie.Need-returns
 returns c =
     let a = c .before .before .before .before .args in
-    (c .lost .ensures .0 ∙ two-lost (a .c .n) (a .x) (a .y) _ (c .before .before .before .greater .ensures) (c .before .if1 .taken), c .lost .ensures .1, c .lost .ensures .2)
+    let e = c .lost .ensures in
+    let q = two-lost (a .c .n) (a .x) (a .y) _ (c .before .before .before .greater .ensures) (omega (arith, c .before .if1 .taken)) in
+    (e .0 ∙ q, e .1, e .2)
 
 lesser-requires : tie.Need-lesser-requires
 lesser-requires c κs = search needs
