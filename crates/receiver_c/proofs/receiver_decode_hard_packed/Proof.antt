@@ -68,7 +68,7 @@ found-requires : tie.Need-found-requires
 unfolding hardOf
 found-requires c κs =
     let r = room (c .before .before .before .before .before) in
-    (r .count, r .inside 0, r .inside 1, r .inside 2)
+    (r .count, r .inside _, r .inside _, r .inside _)
 
 same-length : tie.Need-same-length
 same-length c = search needs
