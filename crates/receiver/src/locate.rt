@@ -11,8 +11,7 @@
 // worked out: that E and the moved locator are those of document 01 are the laws `e5-is` and `moved-is` (bch `decoding`).
 //
 // What is found are roots by how the tables were filled (`trio-sums`), so that their sums need not be held to the syndromes; only positions at
-// or beyond n are refused. They are handed on in rising order, to both stages: to order them costs a deep search nothing that can be measured,
-// since then only the last is held to n.
+// or beyond n are refused. They are handed on in rising order, to both stages; only the last has then to be held to n.
 ghost use mathlib.Core.Path.{_≡_};
 ghost use mathlib.Core.Logic.{_≢_};
 ghost use mathlib.Core.List.{[], _∷_};
