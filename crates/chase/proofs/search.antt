@@ -3,3 +3,4 @@ pub mod SearchLaws
 pub mod Steps
 pub mod Ready
 pub mod Tries
+pub mod Passing

@@ -9,7 +9,7 @@ use Rattle.listing.specs.Text.{ascii, decimal, digits, signed, markName,
 -- ---- the example
 
 example-sure : wordLine 0 (record { mark = sure; distance = 1; margin = pos 5; flips = 1; place = 0; tries = 1; word = [] }) (0 ∷ [])
-    ≡ ascii "0 sure 1 5 1 0\n"
+    ≡ ascii "0 sure 1 9 1 0\n"
 unfolding wordLine line markName messageText bitsText signed decimal digits ascii
 example-sure = refl
 

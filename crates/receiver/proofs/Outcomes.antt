@@ -7,10 +7,14 @@ use mathlib.Core.List.{List}
 use mathlib.Core.Option.{Option, none, some, Option·map}
 use borrow.Author.Tests.{ltb-true, ltb-false, leb-true, leb-false}
 use lib.Dec.{ltb, leb}
-use Rattle.bch.specs.Code.{Code}
+use lib.ListN.{length}
+use Rattle.bch.specs.Code.{Code, wordLength}
+use Rattle.bch.proofs.codes.Settings.{Lawful}
 use Rattle.chase.specs.Soft.{Answer, Candidate, sure, answer, settled, better, candidate, tried, searchFrom, softStage}
+use Rattle.chase.specs.Word.{Symbols}
+use Rattle.chase.proofs.search.Passing.{Backed, BestBacked, backed-none, backed-tried, step-far}
 use Rattle.chase.proofs.search.Steps.{search-start, skip, step-sure, step-on, step-end, better-first, better-nearer, better-kept}
-use Rattle.receiver.specs.Search.{candidateOf, pickOf, outcomeOf, nearerPick, pickBy, judgedBy, Sound, Tried, Untried}
+use Rattle.receiver.specs.Search.{candidateOf, pickOf, outcomeOf, fartherPick, nearerPick, pickBy, judgedBy, Sound, Tried, Untried}
 use Rattle.receiver.specs.declared.locate.Flips.{Flips}
 use Rattle.receiver.specs.declared.weighing.Weight.{Weight}
 use Rattle.receiver.specs.declared.search.Pick.{Pick}
@@ -103,6 +107,7 @@ module _ (code : Code) (p : ℕ) (ss : List ℕ) where
   tried-none o u =
       record {
         sound = u .sound (code .n);
+        backed = λ b e. backed-none code ss b (sym (pick-none p ss (o .pick) (u .none-found)) ∙ e);
         ended = λ z. no-bool (sym z ∙ u .unsure);
         going = λ _.
             ap (λ (j : ℕ). searchFrom code p ss (2 ^ p - j) j (pickOf p ss (o .pick))) (u .none-made)
@@ -127,58 +132,85 @@ module _ (code : Code) (p : ℕ) (ss : List ℕ) where
     tried-missed k l u h =
         record {
           sound = t .sound;
+          backed = t .backed;
           ended = λ z. no-bool (sym z ∙ unsure);
           going = λ _.
               sym (skip code p ss (2 ^ p) (k - o .tries) (o .tries) k (pickOf p ss (o .pick)) (omega arith) u h) ∙ t .going unsure;
         }
 
   -- a try that has one: j is its test word, and `o` has counted it
-  module _ (o : Outcome) (unsure : o .sure ≡ false) (j : ℕ) (made : o .tries ≡ j + 1) (more : j < 2 ^ p) (sound : Sound (code .n) (o .pick))
+  module _ (isCode : Lawful code) (long : length ss ≡ wordLength code) (symbols : Symbols ss) (o : Outcome) (unsure : o .sure ≡ false) (j : ℕ)
+      (made : o .tries ≡ j + 1) (more : j < 2 ^ p) (sound : Sound (code .n) (o .pick)) (backed : BestBacked code ss (pickOf p ss (o .pick)))
       (old : searchFrom code p ss (2 ^ p - j) j (pickOf p ss (o .pick)) ≡ softStage code p ss)
       (A : ℕ) (w : Weight) (f : Flips) (found : f .found ≡ true) (new : Sound (code .n) (pickBy A o w f))
       (result : pickOf p ss (pickBy A o w f) ≡ Option·map (candidate code p ss j) (tried code p ss j)) where
     abbrev k : Pick
     k = pickBy A o w f
 
+    gives : Option·map (candidate code p ss j) (tried code p ss j) ≡ some (candidateOf p ss (pickBy A o w f))
+    gives = sym result ∙ pick-some p ss k found
+
+    new-backed : BestBacked code ss (pickOf p ss (pickBy A o w f))
+    new-backed b e = backed-tried code isCode p ss long symbols j more b (sym result ∙ e)
+
+    -- one that is farther than the best so far
+    turn-farther : fartherPick (o .pick) (w .sum) ≡ true → searchFrom code p ss (2 ^ p - (j + 1)) (j + 1) (pickOf p ss (o .pick)) ≡ softStage code p ss
+    unfolding fartherPick
+    turn-farther far = go (o .pick .flips .found) refl
+      where
+        go : (x : Bool) → o .pick .flips .found ≡ x → searchFrom code p ss (2 ^ p - (j + 1)) (j + 1) (pickOf p ss (o .pick)) ≡ softStage code p ss
+        go false e = no-bool (sym (rw e at far))
+        go true e =
+            let less : ltb (o .pick .sum) (w .sum) ≡ true = rw e at far in
+            let best = pick-some p ss (o .pick) e in
+            sym (step-far code isCode p ss long symbols j more (candidateOf p ss k) gives (candidateOf p ss (o .pick)) (backed _ best)
+            (ltb-true (o .pick .sum) (w .sum) less) (2 ^ p) (pickOf p ss (o .pick)) more best) ∙ old
+
     pub tried-judged : Tried code p ss (judgedBy A o w f)
     unfolding judgedBy
-    tried-judged = go (leb (w .sum) A) refl (nearerPick (o .pick) (w .sum)) refl
+    tried-judged = go (fartherPick (o .pick) (w .sum)) refl (leb (w .sum) A) refl (nearerPick (o .pick) (w .sum)) refl
       where
-        go : (x : Bool) → leb (w .sum) A ≡ x → (y : Bool) → nearerPick (o .pick) (w .sum) ≡ y
-            → Tried code p ss (cond x (record { sure = true; tries = o .tries; pick = pickBy A o w f })
-            (cond y (record { sure = false; tries = o .tries; pick = pickBy A o w f }) o))
-        go true e y g =
+        kept : searchFrom code p ss (2 ^ p - (j + 1)) (j + 1) (pickOf p ss (o .pick)) ≡ softStage code p ss → Tried code p ss o
+        kept e =
+            record {
+              sound = sound;
+              backed = backed;
+              ended = λ z. no-bool (sym z ∙ unsure);
+              going = λ _. ap (λ (i : ℕ). searchFrom code p ss (2 ^ p - i) i (pickOf p ss (o .pick))) made ∙ e;
+            }
+
+        go : (x : Bool) → fartherPick (o .pick) (w .sum) ≡ x → (y : Bool) → leb (w .sum) A ≡ y → (z : Bool) → nearerPick (o .pick) (w .sum) ≡ z
+            → Tried code p ss (cond x o (cond y (record { sure = true; tries = o .tries; pick = pickBy A o w f })
+            (cond z (record { sure = false; tries = o .tries; pick = pickBy A o w f }) o)))
+        go true far y e z g = kept (turn-farther far)
+        go false far true e z g =
             record {
               sound = new;
+              backed = new-backed;
               ended = λ _.
                   ap (λ (i : ℕ). outcomeOf p ss (record { sure = true; tries = i; pick = k })) made
                   ∙ turn-sure p ss code (2 ^ p) j (o .pick) k more result old found (leb-true (w .sum) A e);
               going = λ z. no-bool z;
             }
-        go false e true g =
+        go false far false e true g =
             record {
               sound = new;
+              backed = new-backed;
               ended = λ z. no-bool (sym z);
               going = λ _.
                   ap (λ (i : ℕ). searchFrom code p ss (2 ^ p - i) i (pickOf p ss k)) made
                   ∙ turn-near p ss code (2 ^ p) j (o .pick) k more result old found (leb-false (w .sum) A e) g;
             }
-        go false e false g =
-            record {
-              sound = sound;
-              ended = λ z. no-bool (sym z ∙ unsure);
-              going = λ _.
-                  ap (λ (i : ℕ). searchFrom code p ss (2 ^ p - i) i (pickOf p ss (o .pick))) made
-                  ∙ turn-far p ss code (2 ^ p) j (o .pick) k more result old found (leb-false (w .sum) A e) g;
-            }
+        go false far false e false g = kept (turn-far p ss code (2 ^ p) j (o .pick) k more result old found (leb-false (w .sum) A e) g)
 
 -- judging a candidate counts no try
 pub judged-tries : (A : ℕ) (o : Outcome) (w : Weight) (f : Flips) → judgedBy A o w f .tries ≡ o .tries
 unfolding judgedBy
-judged-tries A o w f = go (leb (w .sum) A) (nearerPick (o .pick) (w .sum))
+judged-tries A o w f = go (fartherPick (o .pick) (w .sum)) (leb (w .sum) A) (nearerPick (o .pick) (w .sum))
   where
-    go : (x y : Bool) → (cond x (record { sure = true; tries = o .tries; pick = pickBy A o w f })
-        (cond y (record { sure = false; tries = o .tries; pick = pickBy A o w f }) o)) .tries ≡ o .tries
-    go true y = refl
-    go false true = refl
-    go false false = refl
+    go : (x y z : Bool) → (cond x o (cond y (record { sure = true; tries = o .tries; pick = pickBy A o w f })
+        (cond z (record { sure = false; tries = o .tries; pick = pickBy A o w f }) o))) .tries ≡ o .tries
+    go true y z = refl
+    go false true z = refl
+    go false false true = refl
+    go false false false = refl

@@ -15,9 +15,9 @@ use Rattle.bch.proofs.tables.Placing.{Placed}
 use Rattle.bch.proofs.codes.Settings.{Lawful}
 use Rattle.chase.specs.Soft.{hardBits, reliabilities, candidate, tried}
 use Rattle.chase.specs.Word.{test}
-use Rattle.chase.proofs.ranking.Allowances.{weighed}
+use Rattle.chase.proofs.ranking.Allowances.{unflippedSum}
 use Rattle.chase.proofs.test_words.Doublings.{Holds}
-use Rattle.chase.proofs.search.Ready.{packedTest, length-candidate, test-sums, test-weight, weighed-most}
+use Rattle.chase.proofs.search.Ready.{packedTest, length-candidate, test-sums, test-weight, unflipped-small}
 use Rattle.chase.proofs.search.Steps.{skip}
 use Rattle.chase.proofs.search.Tries.{try-parts, try-missed, try-placed, try-distinct, try-some}
 use Rattle.chase.proofs.weighing.Weights.{Weighs, packedWeight, weighs-small}
@@ -102,7 +102,7 @@ module _ (c : refusal.Code) (tables ss : List ℕ) (keys : Keys) (p : ℕ) (ts :
         d = designDistance (codeOf c)
 
         abbrev A : ℕ
-        A = weighed (take (d - w .q) ls)
+        A = unflippedSum (flipsOf f) j (d - w .q) (take d ls)
 
         abbrev counted : Outcome
         counted = record { sure = o .sure; tries = tries; pick = o .pick }
@@ -117,20 +117,21 @@ module _ (c : refusal.Code) (tables ss : List ℕ) (keys : Keys) (p : ℕ) (ts :
             let small =
             weighs-small ss (flippedAt (flipsOf f) (test p ss j)) (w .q) (w .sum) (ready .deep .ready .most)
             (length-candidate ss ks p (ready .deep .ready) j (flipsOf f)) weighs in
-            let most = weighed-most d ss ls (ready .deep .least) (ready .deep .there) (d - w .q) (omega arith) in
+            let most = unflipped-small d ss ks ls p (ready .deep) (flipsOf f) j (d - w .q) in
             record { placed = placed; sum-small = omega (arith, small .1); allowed-small = omega (arith, most, lawful .t-most) }
 
         stands : pickOf p ss (pickBy A counted w f) ≡ Option·map (candidate (codeOf c) p ss j) (tried (codeOf c) p ss j)
         stands =
             pick-some p ss (pickBy A counted w f) found
             ∙ sym (try-some (c .m) (c .t) (c .n) lawful tables (ready .filled .tables) ss ks ls p (ready .deep) (ready .long) j (sumsAt ts j)
-            (are-sums j j-lt) (f .found) (f .count) (f .at) (next .there found .2) found (w .q) (w .sum) A weighs (λ i. A))
+            (are-sums j j-lt) (f .found) (f .count) (f .at) (next .there found .2) found (w .q) (w .sum) A (omega (arith, j-lt, tests .most)) weighs (λ i. A))
 
-        pub turn-judged : Tried (codeOf c) p ss (judgedBy (weighed (take (designDistance (codeOf c) - w .q) (keys .at ++ keys .more)))
+        pub turn-judged : Tried (codeOf c) p ss (judgedBy
+            (unflippedSum (flipsOf f) (tries - 1) (designDistance (codeOf c) - w .q) (take (designDistance (codeOf c)) (keys .at ++ keys .more)))
             (record { sure = o .sure; tries = tries; pick = o .pick }) w f)
         turn-judged =
             let (more, gone, _) = next .there found in
             let e = skip (codeOf c) p ss (2 ^ p) (j - o .tries) (o .tries) j (pickOf p ss (o .pick)) (omega arith) (omega (arith, tests .most, next .most))
             (λ i l u. missed i (omega (arith, next .most)) (gone i l u)) in
-            tried-judged (codeOf c) p ss counted unsure j (omega arith) (omega (arith, tests .most, next .most)) (t .sound) (sym e ∙ t .going unsure)
-            A w f found sound stands
+            tried-judged (codeOf c) p ss lawful (ready .long) (ready .deep .ready .symbols) counted unsure j (omega arith)
+            (omega (arith, tests .most, next .most)) (t .sound) (t .backed) (sym e ∙ t .going unsure) A w f found sound stands

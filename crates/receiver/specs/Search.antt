@@ -15,6 +15,7 @@ use Rattle.chase.specs.Soft.{Answer, Candidate, answer, lostAnswer, lost, fair,
 use Rattle.chase.specs.Word.{test}
 use Rattle.chase.proofs.test_words.Doublings.{Holds}
 use Rattle.chase.proofs.search.Ready.{Deep, packedTest}
+use Rattle.chase.proofs.search.Passing.{BestBacked}
 use Rattle.take_format.specs.Batch.{markByte}
 use Rattle.refusal.specs.Named.{codeOf}
 use Rattle.refusal.specs.declared.Code as refusal
@@ -45,6 +46,10 @@ module _ (p : ℕ) (ss : List ℕ) where
       (cond (o .sure) (answer sure (o .tries) (candidateOf (o .pick))) (answer fair (o .tries) (candidateOf (o .pick))))
       (lostAnswer (o .tries))
 
+-- a candidate of distance L is farther than a pick, where that stands for one
+unfoldable pub fartherPick : Pick → ℕ → Bool
+fartherPick b L = cond (b .flips .found) (ltb (b .sum) L) false
+
 -- a candidate of distance L is nearer than a pick, where that stands for one
 unfoldable pub nearerPick : Pick → ℕ → Bool
 nearerPick b L = cond (b .flips .found) (ltb L (b .sum)) true
@@ -55,10 +60,11 @@ pickBy A o w f = record { q = w .q; sum = w .sum; allowed = A; place = o .tries 
 
 -- an outcome with that candidate
 unfoldable pub judgedBy : ℕ → Outcome → Weight → Flips → Outcome
-unfolding nearerPick
+unfolding fartherPick nearerPick
 judgedBy A o w f =
-    cond (leb (w .sum) A) (record { sure = true; tries = o .tries; pick = pickBy A o w f })
-    (cond (nearerPick (o .pick) (w .sum)) (record { sure = false; tries = o .tries; pick = pickBy A o w f }) o)
+    cond (fartherPick (o .pick) (w .sum)) o
+    (cond (leb (w .sum) A) (record { sure = true; tries = o .tries; pick = pickBy A o w f })
+    (cond (nearerPick (o .pick) (w .sum)) (record { sure = false; tries = o .tries; pick = pickBy A o w f }) o))
 
 -- a pick's numbers are small, and its positions those of a word of n bits
 pub record Sound (n : ℕ) (k : Pick) : Type 0 where
@@ -73,9 +79,10 @@ pub record Untried (o : Outcome) : Type 0 where
   pub none-found : o .pick .flips .found ≡ false
   pub sound : (n : ℕ) → Sound n (o .pick)
 
--- an outcome after some tries: the search's answer where one ended it, and otherwise what is left to try gives that answer
+-- an outcome after some tries: its pick stands for a codeword with its distance, and it is the search's answer where one ended it, and otherwise what is left to try gives that answer
 pub record Tried (c : Code) (p : ℕ) (ss : List ℕ) (o : Outcome) : Type 0 where
   pub sound : Sound (c .n) (o .pick)
+  pub backed : BestBacked c ss (pickOf p ss (o .pick))
   pub ended : o .sure ≡ true → outcomeOf p ss o ≡ softStage c p ss
   pub going : o .sure ≡ false → searchFrom c p ss (2 ^ p - o .tries) (o .tries) (pickOf p ss (o .pick)) ≡ softStage c p ss
 

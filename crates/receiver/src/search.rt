@@ -9,9 +9,10 @@ ghost use Prim.Native.Nat.{_-_, _^_, _<_, _≤_};
 ghost use lib.ListN.{length, take};
 ghost use Rattle.bch.proofs.logarithms.LogAnswers.{syndromesOf};
 ghost use Rattle.chase.specs.Soft.{hardBits, softStage};
-ghost use Rattle.chase.proofs.ranking.Allowances.{weighed};
+ghost use Rattle.chase.proofs.ranking.Allowances.{unflippedSum};
 ghost use Rattle.refusal.specs.Named.{codeOf};
-ghost use Rattle.receiver.specs.Search.{nearerPick, judgedBy, outcomeOf, Ready, Sound, Tried, TestWords, Untried};
+ghost use Rattle.receiver.specs.Located.{flipsOf};
+ghost use Rattle.receiver.specs.Search.{fartherPick, nearerPick, judgedBy, outcomeOf, Ready, Sound, Tried, TestWords, Untried};
 use crate::hard_stage;
 use crate::locate;
 use crate::locate::Flips;
@@ -58,6 +59,17 @@ fn untried() -> Outcome
     }
 }
 
+// Whether a candidate of distance `sum` is farther than the best so far.
+fn farther(best: Pick, sum: u32) -> bool
+    ensures { λ r. ⌜ r ≡ fartherPick best sum ⌝ }
+{
+    let found = best.flips.found;
+    if !found {
+        return false;
+    }
+    best.sum < sum
+}
+
 // Whether a candidate of distance `sum` is better than the best so far: there is none, or it is farther.
 fn nearer(best: Pick, sum: u32) -> bool
     ensures { λ r. ⌜ r ≡ nearerPick best sum ⌝ }
@@ -70,17 +82,21 @@ fn nearer(best: Pick, sum: u32) -> bool
 }
 
 // The outcome with the candidate of the last try: it ends the search where its margin is 0 or more, and is kept where it is nearer than the
-// best so far.
+// best so far. (One that is farther has a margin below 0, by the law `far-unsure`, chase `search.Passing`: A is not worked out for it.)
 fn judged(d: usize, keys: Keys, o: Outcome, w: Weight, f: Flips) -> Outcome
-    requires { ⌜ (length (keys .at) ≡ 6) × (length (keys .more) ≡ 2) × (d ≤ 8) × (1 ≤ o .tries) ⌝ }
-    ensures { λ r. ⌜ r ≡ judgedBy (weighed (take (d - w .q) (keys .at ++ keys .more))) o w f ⌝ }
+    requires { ⌜ (length (keys .at) ≡ 6) × (length (keys .more) ≡ 2) × (d ≤ 8) × (1 ≤ o .tries) × (f .count ≤ 3) × (length (f .at) ≡ 3) ⌝ }
+    ensures { λ r. ⌜ r ≡ judgedBy (unflippedSum (flipsOf f) (o .tries - 1) (d - w .q) (take d (keys .at ++ keys .more))) o w f ⌝ }
 {
-    let a = weighing::allowance(keys, d, w.q);
+    if farther(o.pick, w.sum) {
+        return o;
+    }
+    let j = o.tries - 1;
+    let a = weighing::allowance(keys, d, j, w.q, f);
     let k = Pick {
         q: w.q,
         sum: w.sum,
         allowed: a,
-        place: o.tries - 1,
+        place: j,
         flips: f,
     };
     if w.sum <= a {

@@ -1,34 +1,21 @@
 // What a candidate weighs: its flips q, its distance L and its allowance A.
 ghost use mathlib.Core.Path.{_≡_};
 ghost use mathlib.Core.List.{_++_};
-ghost use Prim.Native.Nat.{_-_, _<_, _≤_};
+ghost use Prim.Native.Nat.{_-_, _%_, _<_, _≤_};
+ghost use lib.Dec.{eqb};
 ghost use lib.ListN.{length, getD, take};
 ghost use Rattle.bch.specs.Words.{isIn, Distinct, flippedAt};
 ghost use Rattle.chase.specs.Soft.{hardBits, reliabilities};
 ghost use Rattle.chase.specs.Word.{test, weakest};
 ghost use Rattle.chase.proofs.test_words.TestWords.{chosen};
 ghost use Rattle.chase.proofs.weighing.Weights.{Weighs, packedWeight};
-ghost use Rattle.chase.proofs.ranking.Allowances.{weighed};
+ghost use Rattle.chase.proofs.ranking.Allowances.{turned, unflippedSum};
 ghost use Rattle.chase.proofs.search.Ready.{Ready, placesOf};
+ghost use Rattle.receiver.specs.Located.{flipsOf};
 use crate::least_keys;
 use crate::locate;
 use crate::locate::Flips;
 use ranking::Keys;
-
-// A: the sum of the d - q smallest reliabilities, added up from the keys for each candidate: they are few.
-pub fn allowance(keys: Keys, d: usize, q: u32) -> u32
-    requires { ⌜ (length (keys .at) ≡ 6) × (length (keys .more) ≡ 2) × (d ≤ 8) ⌝ }
-    ensures { λ r. ⌜ r ≡ weighed (take (d - q) (keys .at ++ keys .more)) ⌝ }
-{
-    let flips = q as usize;
-    let mut sum: u32 = 0;
-    let mut k = 0;
-    while k + flips < d {
-        sum += least_keys::held(least_keys::key_at(keys, k));
-        k += 1;
-    }
-    sum
-}
 
 // The reliability at a position.
 fn z_at(s: &[u8], x: usize) -> u32
@@ -110,4 +97,60 @@ pub fn weigh(s: &[u8], keys: Keys, p: usize, j: usize, start: u32, f: Flips) -> 
         a += 1;
     }
     Weight { q, sum }
+}
+
+// Whether x is one of the positions.
+fn is_among(f: Flips, x: usize) -> bool
+    requires { ⌜ (f .count ≤ 3) × (length (f .at) ≡ 3) ⌝ }
+    ensures { λ r. ⌜ r ≡ isIn x (flipsOf f) ⌝ }
+{
+    let places = f.at;
+    let count = f.count;
+    let mut a = 0;
+    while a < count {
+        if locate::entry_of(places, a) == x {
+            return true;
+        }
+        a += 1;
+    }
+    false
+}
+
+// Whether a candidate flips position x: where it is one of those located, or the test word flips it, which the lowest bit of r tells, and not
+// both.
+fn turns(f: Flips, r: usize, x: usize) -> bool
+    requires { ⌜ (f .count ≤ 3) × (length (f .at) ≡ 3) ⌝ }
+    ensures { λ b. ⌜ b ≡ turned (isIn x (flipsOf f)) (eqb (r % 2) 1) ⌝ }
+{
+    let located = is_among(f, x);
+    if r % 2 == 1 {
+        return !located;
+    }
+    located
+}
+
+// A: the sum of the d - q smallest reliabilities among the positions that the candidate does not flip, which is test word j flipped at f. They
+// are among the d smallest of all (`allowance-first`, chase `ranking.Unflipped`), and bit k of j tells whether the test word flips the
+// position of key k.
+pub fn allowance(keys: Keys, d: usize, j: usize, q: u32, f: Flips) -> u32
+    requires { ⌜ (length (keys .at) ≡ 6) × (length (keys .more) ≡ 2) × (d ≤ 8) × (f .count ≤ 3) × (length (f .at) ≡ 3) ⌝ }
+    ensures { λ r. ⌜ r ≡ unflippedSum (flipsOf f) j (d - q) (take d (keys .at ++ keys .more)) ⌝ }
+{
+    let mut sum: u32 = 0;
+    let mut full = q as usize;
+    let mut r = j;
+    let mut k = 0;
+    while k < d {
+        if d <= full {
+            return sum;
+        }
+        let key = least_keys::key_at(keys, k);
+        if !turns(f, r, least_keys::place_of(key)) {
+            sum += least_keys::held(key);
+            full += 1;
+        }
+        r = r / 2;
+        k += 1;
+    }
+    sum
 }

@@ -10,7 +10,7 @@ use lib.ListN.{length, getD, take, replicate, length-replicate, length-take, len
 use lib.Seq.{take-append-le, take-take, getD-take, length-take-le}
 use Rattle.bch.specs.Words.{isIn}
 use Rattle.bch.proofs.codes.Flipped.{is-in-none}
-use Rattle.chase.specs.Soft.{Ranked, rank, weak, sum, smallestSum, reliabilities}
+use Rattle.chase.specs.Soft.{Ranked, rank, weak, reliabilities}
 use Rattle.chase.proofs.ranking.Ranking.{All, all-map, Before, Ordered, ordered, Placed, placed, length-rank}
 use Rattle.chase.proofs.test_words.Reach.{length-reliabilities}
 
@@ -20,12 +20,16 @@ use Rattle.chase.proofs.test_words.Reach.{length-reliabilities}
 abbrev pub key : ℕ → ℕ → ℕ
 key z at = z * 1024 + at
 
+-- what a key holds
+abbrev pub rankedOf : ℕ → Ranked
+rankedOf k = record { z = k / 1024; at = k % 1024 }
+
 -- ks begins with the `size` least keys of a word of symbols, in order: each holds a position and its reliability, the first p the
--- p weak positions, and the first k the k smallest reliabilities
+-- p weak positions, and the first k the first k of the weakest order
 pub record Weakest (size : ℕ) (ss ks : List ℕ) : Type 0 where
   pub long : size ≤ length ks
   pub positions : (p : ℕ) → p ≤ size → p ≤ length ss → map (λ (k : ℕ). k % 1024) (take p ks) ≡ weak p (reliabilities ss)
-  pub sums : (k : ℕ) → k ≤ size → k ≤ length ss → sum (map (λ (k : ℕ). k / 1024) (take k ks)) ≡ smallestSum k (reliabilities ss)
+  pub ranked : (k : ℕ) → k ≤ size → k ≤ length ss → map rankedOf (take k ks) ≡ take k (rank 0 (reliabilities ss))
   pub rising : (i j : ℕ) → i ≤ j → j < size → getD ks i 0 ≤ getD ks j 0
   pub held : (b : ℕ) → b < size → b < length ss
       → (getD ks b 0 / 1024 ≡ getD (reliabilities ss) (getD ks b 0 % 1024) 0) × (getD ks b 0 % 1024 < length ss)
@@ -94,12 +98,13 @@ positions-of (r ∷ rs) a =
     let e : (r .z * 1024 + r .at) % 1024 ≡ r .at = omega (arith, a .0) in
     rw e (ap (λ (l : List ℕ). r .at ∷ l) (positions-of rs (a .1)))
 
-reliabilities-of : (rs : List Ranked) → All (λ r. r .at < 1024) rs → map (λ (k : ℕ). k / 1024) (map keyOf rs) ≡ map (λ (r : Ranked). r .z) rs
+ranked-of : (rs : List Ranked) → All (λ r. r .at < 1024) rs → map rankedOf (map keyOf rs) ≡ rs
 unfolding All keyOf
-reliabilities-of [] a = refl
-reliabilities-of (r ∷ rs) a =
+ranked-of [] a = refl
+ranked-of (r ∷ rs) a =
     let e : (r .z * 1024 + r .at) / 1024 ≡ r .z = omega (arith, a .0) in
-    rw e (ap (λ (l : List ℕ). r .z ∷ l) (reliabilities-of rs (a .1)))
+    let f : (r .z * 1024 + r .at) % 1024 ≡ r .at = omega (arith, a .0) in
+    rw (e, f) (ap (λ (l : List Ranked). r ∷ l) (ranked-of rs (a .1)))
 
 held-at : (zs : List ℕ) (rs : List Ranked) → length zs ≤ 1024 → All (Placed 0 zs) rs → (b : ℕ) → b < length rs
     → (getD (map keyOf rs) b 0 / 1024 ≡ getD zs (getD (map keyOf rs) b 0 % 1024) 0) × (getD (map keyOf rs) b 0 % 1024 < length zs)
@@ -192,14 +197,13 @@ module _ (size : ℕ) (ss : List ℕ) (most : length ss ≤ 1024) where
 
     -- the first of a word's keys in the weakest order, with 65535 where there are no more
     pub ranked-weakest : Weakest size ss ks
-    unfolding zs pad all weak smallestSum
+    unfolding zs pad all weak
     ranked-weakest =
         record {
           long = omega (arith, long-listed, length-take size ks);
           positions = λ p u h. ap (map (λ (k : ℕ). k % 1024)) (front p u h) ∙ map-take (λ (k : ℕ). k % 1024) p all
               ∙ ap (take p) (positions-of (rank 0 zs) narrow);
-          sums = λ k u h. ap (λ (l : List ℕ). sum (map (λ (k : ℕ). k / 1024) l)) (front k u h)
-              ∙ ap sum (map-take (λ (k : ℕ). k / 1024) k all ∙ ap (take k) (reliabilities-of (rank 0 zs) narrow));
+          ranked = λ k u h. ap (map rankedOf) (front k u h) ∙ map-take rankedOf k all ∙ ap (take k) (ranked-of (rank 0 zs) narrow);
           rising = λ i j o h. rw (at-listed i (omega arith), at-listed j h)
               (rising-order 0 (take size (all ++ pad)) i j (rising-take size 0 (all ++ pad) rising-all) o
               (omega (arith, ap length first-listed, long-listed)));
@@ -214,7 +218,7 @@ fewer-weakest size few room ss ks w h l =
     record {
       long = omega (arith, w .long, length-take room ks);
       positions = λ p u e. ap (map (λ (k : ℕ). k % 1024)) (take-take p room ks (omega arith)) ∙ w .positions p (omega arith) e;
-      sums = λ k u e. ap (λ (xs : List ℕ). sum (map (λ (k : ℕ). k / 1024) xs)) (take-take k room ks (omega arith)) ∙ w .sums k (omega arith) e;
+      ranked = λ k u e. ap (map rankedOf) (take-take k room ks (omega arith)) ∙ w .ranked k (omega arith) e;
       rising = λ i j o u. rw (getD-take room ks i 0 (omega arith), getD-take room ks j 0 (omega arith)) (w .rising i j o (omega arith));
       held = λ b u e. rw (getD-take room ks b 0 (omega arith)) (w .held b (omega arith) e);
     }

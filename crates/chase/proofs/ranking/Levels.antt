@@ -24,7 +24,8 @@ levels (suc left) k at zs = atLevel k at zs ++ levels left (suc k) at zs
 
 -- ---- inserting
 
-insert-first : (r : Ranked) (rs : List Ranked) → All (λ s. r .z ≤ s .z) rs → insertRanked r rs ≡ r ∷ rs
+-- before those that are no weaker
+pub insert-first : (r : Ranked) (rs : List Ranked) → All (λ s. r .z ≤ s .z) rs → insertRanked r rs ≡ r ∷ rs
 unfolding All insertRanked
 insert-first r [] a = refl
 insert-first r (s ∷ rs) a = rw (le-leb (r .z) (s .z) (a .0))

@@ -2,13 +2,13 @@
 -- test words' syndromes and weights are, and what a candidate weighs. Assumes nothing.
 use Prim.Native.Nat.{ℕ, zero, suc, _+_, _-_, _*_, _/_, _%_, _^_, _≤_, _<_}
 use native.Mathlib.Omega.{arith}
-use native.Mathlib.Numerals.{add-one}
 use mathlib.Core.Path.{_≡_, refl, ap, sym, _∙_, subst}
 use mathlib.Core.Bool.{true, false}
 use mathlib.Core.List.{List, map}
 use lib.Bits.{bitXor, xor-block, xor-zero-r}
-use lib.ListN.{length, getD, take, length-map, List·getD-map}
-use lib.Seq.{getD-take, length-take-le}
+use lib.Dec.{eqb}
+use lib.ListN.{length, getD, take, length-map, length-take, List·getD-map}
+use lib.Seq.{getD-take, take-take, length-take-le}
 use Rattle.galois.specs.Field.{alpha}
 use Rattle.galois.proofs.FieldLaws.{alpha-lt}
 use Rattle.galois.proofs.FieldTables.{powersOf, size-most}
@@ -21,13 +21,13 @@ use Rattle.bch.proofs.decoding.Located.{length-flipped}
 use Rattle.bch.proofs.tables.Placing.{lowerPart}
 use Rattle.bch.proofs.logarithms.LogBounds.{syndromes-of}
 use Rattle.bch.proofs.logarithms.LogAnswers.{syndromesOf, syndromes-in}
-use Rattle.chase.specs.Soft.{hardBits, reliabilities, weak, sum, distance}
+use Rattle.chase.specs.Soft.{hardBits, reliabilities, Ranked, rank, weak, distance}
 use Rattle.chase.specs.Word.{Symbols, test, weakest}
 use Rattle.chase.proofs.ranking.Ranking as Ranking
 use Rattle.chase.proofs.test_words.Reach.{bits-hard, length-hard, length-reliabilities, bits-test, length-test}
 use Rattle.chase.proofs.ranking.Keys.{Weakest, reliability-lt, weak-long, weak-at, not-weak}
-use Rattle.chase.proofs.ranking.Allowances.{weighed, weighed-more}
-use Rattle.chase.proofs.test_words.TestWords.{chosen, test-none, chosen-absent}
+use Rattle.chase.proofs.ranking.Allowances.{unflippedSum, unflipped-most}
+use Rattle.chase.proofs.test_words.TestWords.{chosen, test-none, chosen-absent, halved, chosen-at, chosen-first}
 use Rattle.chase.proofs.test_words.TestSums.{sums-high}
 use Rattle.chase.proofs.weighing.Weights.{Weighs, packedWeight, unpacked, distance-most, distance-same, weigh-out, weigh-back, weight-high}
 use Rattle.chase.proofs.test_words.Doublings.{Doubled, Holds, Small, holds-first, doubled-holds}
@@ -244,16 +244,38 @@ module _ (ss ks : List ℕ) (p : ℕ) (ready : Ready ss ks p) where
           (weigh-back (length ss) (reliabilities ss) (hardBits ss) (length-hard ss) (length-reliabilities ss) (bits-hard ss (ready .symbols))
           (weak p (reliabilities ss)) weak-distinct j P places a long q L old (sym (rw (← same) at h)))
 
--- the sum of the smallest reliabilities is small
-pub weighed-most : (d : ℕ) (ss ls : List ℕ) → Weakest d ss ls → d ≤ length ss → (k : ℕ) → k ≤ d → weighed (take k ls) ≤ 15 * k
-unfolding sum
-weighed-most d ss ls least there zero h = omega arith
-weighed-most d ss ls least there (suc k) h =
-    let r = least .held k h (omega arith) .0 in
-    omega (
-      arith,
-      rw add-one at (weighed-more k ls (omega (arith, least .long))),
-      weighed-most d ss ls least there k (omega arith),
-      r,
-      reliability-lt ss (getD ls k 0 % 1024),
-    )
+-- ---- the first d keys
+
+module _ (d : ℕ) (ss ks ls : List ℕ) (p : ℕ) (deep : Deep d ss ks ls p) where
+  -- key b has place b in the weakest order, ..
+  key-placed : (e b : ℕ) → b < d → b < e → getD (weak e (reliabilities ss)) b 0 ≡ getD ls b 0 % 1024
+  unfolding weak
+  key-placed e b h l =
+      let Q : List ℕ = map (λ (r : Ranked). r .at) (rank 0 (reliabilities ss)) in
+      getD-take e Q b 0 l
+      ∙ sym (getD-take (suc b) Q b 0 (omega arith))
+      ∙ ap (λ (l : List ℕ). getD l b 0) (sym (deep .least .positions (suc b) h (omega (arith, deep .there))))
+      ∙ List·getD-map (λ (k : ℕ). k % 1024) (take (suc b) ls) b 0
+      ∙ ap (λ (k : ℕ). k % 1024) (getD-take (suc b) ls b 0 (omega arith))
+
+  -- .. so that test word j flips its position where bit b of j is 1, which is never so beyond the depth
+  pub key-chosen : (b j : ℕ) → b < d → j < 2 ^ p → isIn (getD ls b 0 % 1024) (chosen j (weakest p ss)) ≡ eqb (halved b j % 2) 1
+  unfolding weak
+  key-chosen b j h l =
+      let e = d + p in
+      let Q : List ℕ = map (λ (r : Ranked). r .at) (rank 0 (reliabilities ss)) in
+      let first : chosen j (take p Q) ≡ chosen j (take e Q)
+      = ap (chosen j) (sym (take-take p e Q (omega arith))) ∙ chosen-first p j (take e Q) l in
+      let long : length Q ≡ length ss = length-map (rank 0 (reliabilities ss)) (λ (r : Ranked). r .at) ∙ Ranking.length-rank 0 (reliabilities ss) ∙ length-reliabilities ss in
+      rw (← key-placed e b h (omega arith))
+      (ap (isIn (getD (take e Q) b 0)) first
+      ∙ chosen-at (length (reliabilities ss)) b j (take e Q) (Ranking.weak-distinct (reliabilities ss) e) (omega (arith, long, length-take e Q, deep .there)))
+
+  -- the sum of k of their reliabilities is small
+  pub unflipped-small : (P : List ℕ) (j k : ℕ) → unflippedSum P j k (take d ls) ≤ 15 * k
+  unflipped-small P j k = unflipped-most P j k (take d ls) (λ i h. light i (omega (arith, length-take d ls)))
+    where
+      light : (i : ℕ) → i < d → getD (take d ls) i 0 / 1024 < 16
+      light i h =
+          let r = deep .least .held i h (omega (arith, deep .there)) .0 in
+          rw (getD-take d ls i 0 h) (omega (arith, r, reliability-lt ss (getD ls i 0 % 1024)))

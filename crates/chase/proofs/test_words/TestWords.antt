@@ -9,10 +9,10 @@ use mathlib.Core.Bool.{Bool, true, false, cond}
 use mathlib.Core.List.{List, [], _∷_, _++_}
 use borrow.Author.Tests.{eq-eqb, ne-eqb}
 use lib.Dec.{eqb}
-use lib.ListN.{length, getD, drop, length-drop}
+use lib.ListN.{length, getD, take, drop, length-drop}
 use lib.Seq.{drop-cons, drop-length, getD-drop, ext-getD}
 use Rattle.bch.specs.Words.{flip, flippedAt, isIn, Distinct}
-use Rattle.bch.proofs.codes.Flipped.{flipped-append, is-in-cons}
+use Rattle.bch.proofs.codes.Flipped.{flipped-append, is-in-cons, not-before}
 use Rattle.chase.specs.Soft.{hardBits, testWord}
 use Rattle.chase.proofs.test_words.Reach.{length-hard, hard-at}
 
@@ -91,6 +91,44 @@ chosen-distinct n j (w ∷ ws) d = go (eqb (j % 2) 1) (chosen-distinct n (j / 2)
     go : (b : Bool) → Distinct n (chosen (j / 2) ws) → Distinct n (cond b (w ∷ chosen (j / 2) ws) (chosen (j / 2) ws))
     go true i = (d .0, chosen-absent w (j / 2) ws (d .1), i)
     go false i = i
+
+-- ---- bit b of j
+
+-- j without its b lowest bits
+unfoldable pub halved : ℕ → ℕ → ℕ
+halved zero j = j
+halved (suc b) j = halved b j / 2
+
+pub halved-next : (b j : ℕ) → halved (suc b) j ≡ halved b (j / 2)
+unfolding halved
+halved-next zero j = refl
+halved-next (suc b) j = ap (λ (x : ℕ). x / 2) (halved-next b j)
+
+-- the weak position b is chosen where bit b of j is 1
+pub chosen-at : (n b j : ℕ) (ws : List ℕ) → Distinct n ws → b < length ws → isIn (getD ws b 0) (chosen j ws) ≡ eqb (halved b j % 2) 1
+unfolding chosen isIn Distinct halved
+chosen-at n b j [] d h = absurd (omega arith)
+chosen-at n zero j (w ∷ ws) d h = go (eqb (j % 2) 1) (chosen-absent w (j / 2) ws (d .1))
+  where
+    go : (b : Bool) → isIn w (chosen (j / 2) ws) ≡ false → isIn w (cond b (w ∷ chosen (j / 2) ws) (chosen (j / 2) ws)) ≡ b
+    go true i = rw (eq-eqb w w refl) refl
+    go false i = i
+chosen-at n (suc b) j (w ∷ ws) d h =
+    go (eqb (j % 2) 1) (is-in-cons (getD ws b 0) w (take b ws) (not-before n (suc b) (w ∷ ws) d h) .0)
+    (chosen-at n b (j / 2) ws (d .2) (omega arith) ∙ ap (λ (x : ℕ). eqb (x % 2) 1) (sym (halved-next b j)))
+  where
+    go : (c : Bool) → (getD ws b 0 ≡ w → ⊥) → isIn (getD ws b 0) (chosen (j / 2) ws) ≡ eqb (halved b j / 2 % 2) 1
+        → isIn (getD ws b 0) (cond c (w ∷ chosen (j / 2) ws) (chosen (j / 2) ws)) ≡ eqb (halved b j / 2 % 2) 1
+    go true n i = rw (ne-eqb (getD ws b 0) w n) i
+    go false n i = i
+
+-- below 2^p, j chooses from the first p alone
+pub chosen-first : (p j : ℕ) (ws : List ℕ) → j < 2 ^ p → chosen j (take p ws) ≡ chosen j ws
+unfolding chosen
+chosen-first zero j ws h = let e : j ≡ 0 = omega arith in rw e (sym (chosen-none ws))
+chosen-first (suc p) j [] h = refl
+chosen-first (suc p) j (w ∷ ws) h =
+    ap (λ (P : List ℕ). cond (eqb (j % 2) 1) (w ∷ P) P) (chosen-first p (j / 2) ws (omega (arith, pow-succ' 2 p)))
 
 -- ---- going through the weak positions
 

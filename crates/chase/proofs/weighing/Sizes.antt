@@ -16,8 +16,8 @@ use Rattle.bch.specs.Words.{flips, flip}
 use Rattle.bch.specs.Code.{Code, wordLength, designDistance}
 use Rattle.bch.proofs.codes.Settings.{Lawful, word-short}
 use Rattle.bch.proofs.codes.Counting.{flips-triangle, flips-flip, flips-same}
-use Rattle.chase.specs.Soft.{hardBits, reliabilities, Ranked, insertRanked, rank, sum, smallestSum, allowance, testWord, Answer, Mark, lost}
-use Rattle.chase.specs.Soft.{fair, sure, lostAnswer, softStage}
+use Rattle.chase.specs.Soft.{hardBits, reliabilities, Ranked, insertRanked, rank, sum, smallestSum, unflipped, allowance, testWord, Answer}
+use Rattle.chase.specs.Soft.{Mark, lost, fair, sure, lostAnswer, softStage}
 use Rattle.chase.specs.Word.{Symbols, weakest, test, softDistance, allowed, WordWeighed}
 use Rattle.chase.proofs.ranking.Keys.{reliability-lt}
 use Rattle.chase.proofs.test_words.Reach.{length-reliabilities, length-hard, length-test}
@@ -41,10 +41,17 @@ insert-light r (s ∷ rs) h l = go (leb (r .z) (s .z)) (insert-light r rs h (l .
     go true i = (h, l)
     go false i = (l .0, i)
 
-rank-light : (at : ℕ) (ss : List ℕ) → LightRanked (rank at (reliabilities ss))
-unfolding rank LightRanked reliabilities
-rank-light at [] = tt
-rank-light at (s ∷ ss) = insert-light (record { z = s % 16; at = at }) (rank (suc at) (reliabilities ss)) (omega arith) (rank-light (suc at) ss)
+rank-light : (at : ℕ) (ss xs ys : List ℕ) → LightRanked (rank at (unflipped (reliabilities ss) xs ys))
+unfolding rank LightRanked reliabilities unflipped
+rank-light at [] xs ys = tt
+rank-light at (s ∷ ss) [] ys = tt
+rank-light at (s ∷ ss) (x ∷ xs) [] = tt
+rank-light at (s ∷ ss) (x ∷ xs) (y ∷ ys) = go (eqb x y) (λ at. rank-light at ss xs ys)
+  where
+    go : (b : Bool) → ((at : ℕ) → LightRanked (rank at (unflipped (reliabilities ss) xs ys)))
+        → LightRanked (rank at (cond b (s % 16 ∷ unflipped (reliabilities ss) xs ys) (unflipped (reliabilities ss) xs ys)))
+    go true i = insert-light (record { z = s % 16; at = at }) (rank (suc at) (unflipped (reliabilities ss) xs ys)) (omega arith) (i (suc at))
+    go false i = i at
 
 sum-light : (k : ℕ) (rs : List Ranked) → LightRanked rs → sum (take k (map (λ (r : Ranked). r .z) rs)) ≤ 15 * k
 unfolding sum LightRanked
@@ -58,7 +65,7 @@ unfolding allowance smallestSum
 allowed-most code ss c =
     let d = designDistance code in
     let q = flips c (hardBits ss) in
-    omega (arith, sum-light (d - q) (rank 0 (reliabilities ss)) (rank-light 0 ss))
+    omega (arith, sum-light (d - q) (rank 0 (unflipped (reliabilities ss) c (hardBits ss))) (rank-light 0 ss c (hardBits ss)))
 
 -- ---- the flips of a test word
 

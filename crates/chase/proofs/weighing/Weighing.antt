@@ -1,5 +1,5 @@
--- Laws of the weighing: the k smallest reliabilities add up to no more than those of any k positions, and what follows for the
--- acceptance rule. Assumes nothing.
+-- Laws of the weighing: the k smallest reliabilities of the positions that a word leaves as they are add up to no more than those of any k of
+-- these positions, and what follows for the acceptance rule. Assumes nothing.
 use Prim.Native.Nat.{ℕ, zero, suc, _+_, _-_, _≤_, _<_}
 use native.Mathlib.Omega.{arith}
 use native.Mathlib.Decide.{decLe, ℕ-discrete}
@@ -15,8 +15,8 @@ use Rattle.bch.specs.Code.{Code, Codeword, wordLength, designDistance}
 use Rattle.bch.specs.Words.{flips}
 use Rattle.bch.proofs.codes.Settings.{Lawful}
 use Rattle.bch.proofs.codes.Distance.{codewords-far}
-use Rattle.bch.proofs.codes.Counting.{flips-most, flips-sym, flips-triangle}
-use Rattle.chase.specs.Soft.{Ranked, insertRanked, rank, sum, smallestSum, distance, allowance}
+use Rattle.bch.proofs.codes.Counting.{Compared, alike, unlike, compared, differ, differ-same, differ-most, flips-most}
+use Rattle.chase.specs.Soft.{Ranked, insertRanked, rank, sum, smallestSum, distance, unflipped, allowance}
 use Rattle.chase.proofs.ranking.Ranking.{All, all-map, Before, Ordered, ordered, length-rank}
 
 -- ---- the k smallest
@@ -65,34 +65,63 @@ front-with (suc k) r (s ∷ rs) = go (leb (r .z) (s .z)) (front-with k r rs)
     go true i = omega arith
     go false i = omega arith
 
-lightest-from : (at : ℕ) (zs xs ys : List ℕ) → length xs ≡ length zs → length ys ≡ length zs → (k : ℕ) → k ≤ flips xs ys
-    → front k (rank at zs) ≤ distance zs xs ys
-unfolding front rank flips distance
-lightest-from at [] [] ys l m zero h = omega arith
-lightest-from at [] [] ys l m (suc k) h = omega arith
-lightest-from at [] (x ∷ xs) ys l m k h = absurd (omega arith)
-lightest-from at (z ∷ zs) [] ys l m k h = absurd (omega arith)
-lightest-from at (z ∷ zs) (x ∷ xs) [] l m k h = absurd (omega arith)
-lightest-from at (z ∷ zs) (x ∷ xs) (y ∷ ys) l m k h = go (eqb x y) k h (lightest-from (suc at) zs xs ys (omega arith) (omega arith))
+-- ---- the positions that a word does not flip
+
+-- they are those that are left
+pub length-unflipped : (zs xs ys : List ℕ) → length xs ≡ length zs → length ys ≡ length zs → length (unflipped zs xs ys) + flips xs ys ≡ length zs
+unfolding unflipped flips
+length-unflipped [] [] ys l m = refl
+length-unflipped [] (x ∷ xs) ys l m = absurd (omega arith)
+length-unflipped (z ∷ zs) [] ys l m = absurd (omega arith)
+length-unflipped (z ∷ zs) (x ∷ xs) [] l m = absurd (omega arith)
+length-unflipped (z ∷ zs) (x ∷ xs) (y ∷ ys) l m = go (eqb x y) (length-unflipped zs xs ys (omega arith) (omega arith))
+  where
+    go : (b : Bool) → length (unflipped zs xs ys) + flips xs ys ≡ length zs
+        → length (cond b (z ∷ unflipped zs xs ys) (unflipped zs xs ys)) + (cond b 0 1 + flips xs ys) ≡ suc (length zs)
+    go true i = omega arith
+    go false i = omega arith
+
+-- where e differs from c in k positions more than c from xs, it differs from xs in k positions that c does not flip
+lightest-from : (at : ℕ) (zs cs es xs : List ℕ) → length cs ≡ length zs → length es ≡ length zs → length xs ≡ length zs
+    → (k : ℕ) → k + flips cs xs ≤ flips cs es → front k (rank at (unflipped zs cs xs)) ≤ distance zs es xs
+unfolding front rank flips distance unflipped
+lightest-from at [] [] es xs l m n zero h = omega arith
+lightest-from at [] [] es xs l m n (suc k) h = omega arith
+lightest-from at [] (c ∷ cs) es xs l m n k h = absurd (omega arith)
+lightest-from at (z ∷ zs) [] es xs l m n k h = absurd (omega arith)
+lightest-from at (z ∷ zs) (c ∷ cs) [] xs l m n k h = absurd (omega arith)
+lightest-from at (z ∷ zs) (c ∷ cs) (e ∷ es) [] l m n k h = absurd (omega arith)
+lightest-from at (z ∷ zs) (c ∷ cs) (e ∷ es) (x ∷ xs) l m n k h =
+    go (eqb c x) (eqb e x) (differ c e) (compared c x) (compared e x) refl k h
+    (λ at. lightest-from at zs cs es xs (omega arith) (omega arith) (omega arith))
   where
     r : Ranked
     r = record { z = z; at = at }
 
-    go : (b : Bool) (k : ℕ) → k ≤ cond b 0 1 + flips xs ys → ((k : ℕ) → k ≤ flips xs ys → front k (rank (suc at) zs) ≤ distance zs xs ys)
-        → front k (insertRanked r (rank (suc at) zs)) ≤ cond b 0 z + distance zs xs ys
-    go true k h i = omega (
+    go : (b f : Bool) (u : ℕ) → Compared c x b → Compared e x f → differ c e ≡ u → (k : ℕ) → k + (cond b 0 1 + flips cs xs) ≤ u + flips cs es
+        → ((at : ℕ) (k : ℕ) → k + flips cs xs ≤ flips cs es → front k (rank at (unflipped zs cs xs)) ≤ distance zs es xs)
+        → front k (rank at (cond b (z ∷ unflipped zs cs xs) (unflipped zs cs xs))) ≤ cond f 0 z + distance zs es xs
+    go true true u (alike p) (alike q) s k h i = omega (
       arith,
-      front-in k r (rank (suc at) zs) (ordered (suc at) zs)
-          (omega (arith, flips-most xs ys, length-rank (suc at) zs)),
-      i k (omega arith),
+      front-in k r (rank (suc at) (unflipped zs cs xs)) (ordered (suc at) (unflipped zs cs xs))
+          (omega (arith, differ-same c e (p ∙ sym q), flips-most cs es, length-rank (suc at) (unflipped zs cs xs), length-unflipped zs cs xs (omega arith) (omega arith))),
+      i (suc at) k (omega (arith, differ-same c e (p ∙ sym q))),
     )
-    go false zero h i = omega arith
-    go false (suc k) h i = omega (arith, front-with k r (rank (suc at) zs), i k (omega arith))
+    go true false u (alike p) (unlike q) s zero h i = omega arith
+    go true false u (alike p) (unlike q) s (suc k) h i =
+        omega (arith, front-with k r (rank (suc at) (unflipped zs cs xs)), i (suc at) k (omega (arith, differ-most c e)))
+    go false true u (unlike p) (alike q) s k h i = omega (arith, i at k (omega (arith, differ-most c e)))
+    go false false u (unlike p) (unlike q) s k h i = omega (arith, i at k (omega (arith, differ-most c e)))
 
--- the k smallest are no heavier than the positions where two words differ, if these are k or more
-pub lightest : (zs xs ys : List ℕ) → length xs ≡ length zs → length ys ≡ length zs → (k : ℕ) → k ≤ flips xs ys → smallestSum k zs ≤ distance zs xs ys
-unfolding smallestSum front
-lightest zs xs ys l m k h = lightest-from 0 zs xs ys l m k h
+-- the allowance of a word, from d alone: a word that differs from it in d positions or more is at least so far
+pub allowance-least : (d : ℕ) (zs c e xs : List ℕ) → length c ≡ length zs → length e ≡ length zs → length xs ≡ length zs → d ≤ flips c e
+    → allowance d zs c xs ≤ distance zs e xs
+unfolding allowance smallestSum front
+allowance-least d zs c e xs l m n h = go (decLe (flips c xs) d)
+  where
+    go : Dec (flips c xs ≤ d) → front (d - flips c xs) (rank 0 (unflipped zs c xs)) ≤ distance zs e xs
+    go (yes k) = lightest-from 0 zs c e xs l m n (d - flips c xs) (omega arith)
+    go (no k) = let q : d - flips c xs ≡ 0 = omega arith in rw q (omega arith)
 
 -- ---- the acceptance rule
 
@@ -107,13 +136,16 @@ margin-law A L = go (ltb A L) refl
 module _ (code : Code) (isCode : Lawful code) (zs xs : List ℕ) (weighed : length zs ≡ wordLength code) (long : length xs ≡ wordLength code) where
   -- a codeword other than c is at least as far as the allowance of c
   pub rival : (c e : List ℕ) → Codeword code c → Codeword code e → (c ≡ e → ⊥) → allowance (designDistance code) zs c xs ≤ distance zs e xs
-  unfolding allowance
-  rival c e v w ne =
-      lightest zs e xs (w .long ∙ sym weighed) (long ∙ sym weighed) (designDistance code - flips c xs) (go (decLe (designDistance code) (flips c e)))
+  rival c e v w ne = go (decLe (designDistance code) (flips c e))
     where
-      go : Dec (designDistance code ≤ flips c e) → designDistance code - flips c xs ≤ flips e xs
-      go (yes h) = omega (arith, flips-triangle c xs e (v .long ∙ sym long), flips-sym xs e)
+      go : Dec (designDistance code ≤ flips c e) → allowance (designDistance code) zs c xs ≤ distance zs e xs
+      go (yes h) = allowance-least (designDistance code) zs c e xs (v .long ∙ sym weighed) (w .long ∙ sym weighed) (long ∙ sym weighed) h
       go (no h) = absurd (ne (codewords-far code isCode c e v w (omega arith)))
+
+  -- a codeword that is farther than another is not accepted, so its allowance need not be worked out
+  pub farther : (c e : List ℕ) → Codeword code c → Codeword code e → distance zs e xs < distance zs c xs
+      → allowance (designDistance code) zs c xs < distance zs c xs
+  farther c e v w h = omega (arith, rival c e v w (λ q. let z : distance zs c xs ≡ distance zs e xs = ap (λ (y : List ℕ). distance zs y xs) q in omega arith))
 
   -- an accepted codeword is the least of the whole code
   pub accepted : (c : List ℕ) → Codeword code c → distance zs c xs ≤ allowance (designDistance code) zs c xs

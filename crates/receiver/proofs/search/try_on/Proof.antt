@@ -108,7 +108,8 @@ judged-requires : tie.Need-judged-requires Inv-loop μ-loop
 judged-requires c κs =
     let s = c .before .before .before .before .before .before .before .before .before .before .before .before .before in
     let k = s .pre .0 .0 in
-    let n = c .before .before .before .before .before .next .ensures .0 .there (not-false _ (c .before .before .before .before .if2 .left)) .0 in
+    let e = c .before .before .before .before .before .next .ensures in
+    let n = e .0 .there (not-false _ (c .before .before .before .before .if2 .left)) .0 in
     let d : c .before .before .before .before .before .before .before .before .before .distance .result ≤ 8 =
     omega (
       arith,
@@ -116,7 +117,7 @@ judged-requires c κs =
       k .filled .fielded .made .is-d,
       k .filled .fielded .made .lawful .t-most,
     ) in
-    (k .deep .ready .six, k .two, d, omega arith)
+    (k .deep .ready .six, k .two, d, omega arith, e .1 .1, e .1 .0)
 
 returns-2 : tie.Need-returns-2 Inv-loop μ-loop
 returns-2 c = (after (c .before) .0, λ z. no-bool (sym (c .if3 .taken) ∙ z))
