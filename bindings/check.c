@@ -304,13 +304,13 @@ static void check_soft_refused(struct code code, size_t depth, const char *bits,
 
 static void check_decode_soft(void)
 {
-    check_found("case 5", "110000", "115555", 2, (struct soft){RECEIVER_FAIR, 2, -1, 2, 1, 4}, "000000");
+    check_found("case 5", "110000", "115555", 2, (struct soft){RECEIVER_SURE, 2, 3, 2, 1, 2}, "000000");
     check_found("case 6", "110000", "115555", 0, (struct soft){RECEIVER_LOST, 0, 0, 0, 0, 1}, UNTOUCHED);
     check_found("lost at depth 1", "110000", "555551", 1, (struct soft){RECEIVER_LOST, 0, 0, 0, 0, 2}, UNTOUCHED);
     check_found("case 7", "000000", "000000", 0, (struct soft){RECEIVER_SURE, 0, 0, 0, 0, 1}, "000000");
     check_found("case 8", "100000", "912112", 2, (struct soft){RECEIVER_FAIR, 9, -7, 1, 0, 4}, "000000");
     check_found("case 9", "100000", "912112", 4, (struct soft){RECEIVER_FAIR, 4, -3, 2, 8, 16}, "101001");
-    check_found("case 10", "100000", "155555", 0, (struct soft){RECEIVER_SURE, 1, 5, 1, 0, 1}, "000000");
+    check_found("case 10", "100000", "155555", 0, (struct soft){RECEIVER_SURE, 1, 9, 1, 0, 1}, "000000");
     check_found("reliability 15, depth 6", "000000", "??????", 6, (struct soft){RECEIVER_SURE, 0, 45, 0, 0, 1}, "000000");
 
     /* The digit 2 is the symbol 34, which is above 31. All faults at once, and then one fault less in each line. */

@@ -188,12 +188,12 @@ fn soft_cases() {
     let soft = |depth, bits, z| lent(6, |codeword| decode_soft(code_e(), depth, &symbols(bits, z), codeword));
     let found = |distance, margin, flips, place, tries| Found { distance, margin, flips, place, tries };
     let none = digits("000000");
-    assert_eq!(soft(2, "110000", [1, 1, 5, 5, 5, 5]), (Ok(Soft::Fair(found(2, -1, 2, 1, 4))), none.clone()));
+    assert_eq!(soft(2, "110000", [1, 1, 5, 5, 5, 5]), (Ok(Soft::Sure(found(2, 3, 2, 1, 2))), none.clone()));
     assert_eq!(soft(0, "110000", [1, 1, 5, 5, 5, 5]), (Ok(Soft::Lost { tries: 1 }), vec![BEFORE; 6]));
     assert_eq!(soft(0, "000000", [0; 6]), (Ok(Soft::Sure(found(0, 0, 0, 0, 1))), none.clone()));
     assert_eq!(soft(2, "100000", [9, 1, 2, 1, 1, 2]), (Ok(Soft::Fair(found(9, -7, 1, 0, 4))), none.clone()));
     assert_eq!(soft(4, "100000", [9, 1, 2, 1, 1, 2]), (Ok(Soft::Fair(found(4, -3, 2, 8, 16))), digits("101001")));
-    assert_eq!(soft(0, "100000", [1, 5, 5, 5, 5, 5]), (Ok(Soft::Sure(found(1, 5, 1, 0, 1))), none));
+    assert_eq!(soft(0, "100000", [1, 5, 5, 5, 5, 5]), (Ok(Soft::Sure(found(1, 9, 1, 0, 1))), none));
 }
 
 #[test]

@@ -1,10 +1,11 @@
 //! The receiver's error rates over a channel with Gaussian noise, as `docs/ERROR-RATES.md` tells. Prints a line for each point and then
 //! tables of gains, tries and marks, and writes the counts to `docs/error-rates.tsv` and the tables to that page.
 //!
-//!     rates           the whole, in some minutes
-//!     rates --tables  the tables again, from the counts that are in the file
-//!     rates --quick   few words, in some seconds; writes nothing
-//!     rates --steps   compares steps of the ladder, in a minute or two; writes nothing
+//!     rates                 the whole, in some minutes
+//!     rates --tables        the tables again, from the counts that are in the file
+//!     rates --against FILE  sure words and tries of the counts in FILE beside those of the counts that are in the file; writes nothing
+//!     rates --quick         few words, in some seconds; writes nothing
+//!     rates --steps         compares steps of the ladder, in a minute or two; writes nothing
 
 use outside::channel::{Channel, Limit};
 use outside::error_rates::{
@@ -47,25 +48,34 @@ const TARGET: f64 = 1e-5;
 /// The rate of bits that arrive wrong at which tries are compared.
 const NOISE: f64 = 0.008;
 
+/// Where counts are held against others: at these depths, at the point nearest to the target and at points so many dB noisier.
+const HELD: [Decoder; 3] = [Decoder::Soft(2), Decoder::Soft(4), Decoder::Soft(6)];
+const NOISIER: [f64; 3] = [0.0, 0.5, 1.5];
+
 fn main() -> Result<(), Box<dyn Error>> {
     let docs = Path::new(concat!(env!("CARGO_MANIFEST_DIR"), "/../docs"));
     let [counts, page] = ["error-rates.tsv", "ERROR-RATES.md"].map(|name| docs.join(name));
-    match env::args().nth(1).as_deref() {
-        None => {
+    let arguments: Vec<String> = env::args().skip(1).collect();
+    match arguments.iter().map(String::as_str).collect::<Vec<_>>()[..] {
+        [] => {
             let rows = simulate(FULL)?;
             write_rows(&counts, &rows)?;
             write_page(&page, &rows)
         }
-        Some("--tables") => write_page(&page, &read_rows(&counts)?),
-        Some("--quick") => {
+        ["--tables"] => write_page(&page, &read_rows(&counts)?),
+        ["--against", file] => {
+            print!("{}", against(&read_rows(Path::new(file))?, &read_rows(&counts)?));
+            Ok(())
+        }
+        ["--quick"] => {
             print!("{}", parts(&simulate(QUICK)?, 1).join("\n"));
             Ok(())
         }
-        Some("--steps") => {
+        ["--steps"] => {
             compare_steps();
             Ok(())
         }
-        Some(_) => Err("usage: rates [--tables | --quick | --steps]".into()),
+        _ => Err("usage: rates [--tables | --against FILE | --quick | --steps]".into()),
     }
 }
 
@@ -194,6 +204,27 @@ fn table(title: &str, rows: &[Row], decoders: &[Decoder], cell: impl Fn(Code, De
     for code in codes(rows) {
         let cell = |&decoder| format!(" {} |", cell(code, decoder).unwrap_or_else(|| "not reached".to_string()));
         text += &format!("| {} |{}\n", name(code), decoders.iter().map(cell).collect::<String>());
+    }
+    text
+}
+
+/// Sure words in percent and mean tries, by the counts before and after, in Markdown.
+fn against(before: &[Row], after: &[Row]) -> String {
+    let at = |rows, code, decoder, ebn0| curve(rows, code, decoder).into_iter().find(|row| row.ebn0 == ebn0);
+    let cell = |code, decoder, noisier: f64| {
+        let ebn0 = nearest(&curve(before, code, decoder), TARGET)?.ebn0 - noisier;
+        let (before, after) = (at(before, code, decoder, ebn0)?, at(after, code, decoder, ebn0)?);
+        let [sure, more] = [before, after].map(|row| 100.0 * row.sure_share());
+        Some(format!("{sure:.2} to {more:.2} %, {:.2} to {:.2} ({ebn0:.1} dB)", before.mean_tries(), after.mean_tries()))
+    };
+    let heads: String =
+        NOISIER.map(|noisier| if noisier > 0.0 { format!(" {noisier} dB noisier |") } else { " nearest |".to_string() }).concat();
+    let mut text = format!("| n, k, t | depth |{heads}\n|---|---|{}\n", "---|".repeat(NOISIER.len()));
+    for code in codes(after) {
+        for decoder in HELD {
+            let cell = |noisier| format!(" {} |", cell(code, decoder, noisier).unwrap_or_else(|| "not reached".to_string()));
+            text += &format!("| {} | {decoder} |{}\n", name(code), NOISIER.map(cell).concat());
+        }
     }
     text
 }

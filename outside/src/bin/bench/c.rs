@@ -150,8 +150,9 @@ pub fn clock() -> Duration {
 #[cfg(test)]
 mod tests {
     use super::Decoder;
+    use crate::calls::soft_without_tries;
     use outside::draw::Draw;
-    use outside::reference::{Code, Reference};
+    use outside::reference::{Code, Found, Reference, Soft};
 
     /// The codes of every length.
     fn codes() -> impl Iterator<Item = Code> {
@@ -192,5 +193,49 @@ mod tests {
                 assert_eq!((Ok(c.soft(depth, &symbols, &mut ours)), ours), (right, theirs), "{code:?}, depth {depth}");
             }
         }
+    }
+
+    /// Words of full length, of few reliabilities or many, whose wrong bits are mostly among the weakest. The textbook makes all tries.
+    #[test]
+    fn weakest_wrong() {
+        let mut draw = Draw::new(1);
+        for code in codes().filter(|code| code.n == (1 << code.m) - 1) {
+            let reference = Reference::new(code).expect("a code");
+            let (c, textbook) = (Decoder::closed_form(code), Decoder::textbook(code));
+            for depth in (0..=6).cycle().take(1400) {
+                let symbols = weak_word(&mut draw, code, depth);
+                let (mut ours, mut written, mut theirs) = (vec![0; code.n], vec![0; code.n], vec![0; code.n]);
+                let right = reference.decode_soft(depth, &symbols, &mut theirs).expect("a word");
+                let all = soft_without_tries(textbook.soft(depth, &symbols, &mut written));
+                assert_eq!((c.soft(depth, &symbols, &mut ours), &ours), (right, &theirs), "{code:?}, depth {depth}, {symbols:?}");
+                assert_eq!((all, written), (soft_without_tries(right), theirs), "textbook, {code:?}, depth {depth}, {symbols:?}");
+            }
+        }
+    }
+
+    /// The second candidate is as near as the first, which is fair, and is sure.
+    #[test]
+    fn sure_and_as_near() {
+        let code = Code::new(5, 2, 14);
+        let symbols = [19, 4, 19, 4, 4, 4, 4, 5, 1, 4, 4, 4, 4, 0];
+        for c in [Decoder::closed_form(code), Decoder::textbook(code)] {
+            let mut codeword = [0; 14];
+            let found = Found { distance: 6, margin: 0, flips: 3, place: 1, tries: 2 };
+            assert_eq!(c.soft(1, &symbols, &mut codeword), Soft::Sure(found));
+            assert_eq!(codeword, [1, 0, 1, 0, 0, 0, 0, 1, 1, 0, 0, 0, 0, 1]);
+        }
+    }
+
+    /// The codeword 0 with reliabilities from some level on, and up to t + depth wrong bits, two of three of them among the weakest.
+    fn weak_word(draw: &mut Draw, code: Code, depth: usize) -> Vec<u8> {
+        let (least, levels) = draw.pick(&[(0, 16), (0, 3), (1, 3), (3, 2), (5, 11), (7, 1)]);
+        let mut symbols: Vec<u8> = (0..code.n).map(|_| (least + draw.below(levels)) as u8).collect();
+        let mut order: Vec<usize> = (0..code.n).collect();
+        order.sort_by_key(|&position| symbols[position]);
+        for _ in 0..draw.below(code.t + depth + 1) {
+            let among = if draw.once_in(3) { code.n } else { 2 * code.t + 1 + depth };
+            symbols[order[draw.below(among)]] ^= 16;
+        }
+        symbols
     }
 }

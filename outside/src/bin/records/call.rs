@@ -139,8 +139,8 @@ mod tests {
         );
         assert_eq!(lines(Call::Hard { code: E, bits: &[0; 6], room: 0 }), pair("hard 5 1 6 000000000000 0", "refused 7 0 0 0 0 0 -"));
         assert_eq!(
-            lines(Call::Soft { code: E, depth: 2, symbols: &[17, 17, 5, 5, 5, 5], room: 6 }),
-            pair("soft 5 1 6 2 111105050505 6", "fair 2 -1 2 1 4 000000000000")
+            lines(Call::Soft { code: E, depth: 4, symbols: &[25, 1, 2, 1, 1, 2], room: 6 }),
+            pair("soft 5 1 6 4 190102010102 6", "fair 4 -3 2 8 16 010001000001")
         );
     }
 
@@ -169,6 +169,6 @@ mod tests {
             lines(Call::Take { take: &TAKE, messages: 2, marks: 2 }),
             (format!("take {text} 2 2"), "read 2 1 0 1 2 0000 0200".to_string())
         );
-        assert_eq!(Call::List { take: &TAKE }.answer(), "0 sure 1 5 1 0\n1 lost 0 0 1 -\n2 1 0 1 2");
+        assert_eq!(Call::List { take: &TAKE }.answer(), "0 sure 1 9 1 0\n1 lost 0 0 1 -\n2 1 0 1 2");
     }
 }

@@ -15,7 +15,7 @@ const EXAMPLE: [u8; 24] = [
 ];
 
 /// The output that it prints for it.
-const EXAMPLE_LISTING: &str = "0 sure 1 5 1 0\n1 lost 0 0 1 -\n2 1 0 1 2";
+const EXAMPLE_LISTING: &str = "0 sure 1 9 1 0\n1 lost 0 0 1 -\n2 1 0 1 2";
 
 pub fn add(sheet: &mut Sheet) {
     sheet.part("takes: the example and the worked cases of document 01");
@@ -39,7 +39,7 @@ fn add_example(sheet: &mut Sheet) {
     assert_eq!(sheet.add_take("example", &EXAMPLE, (2, 2)), None);
     assert_eq!(Call::List { take: &EXAMPLE }.answer(), EXAMPLE_LISTING);
     sheet.heading("example, its words");
-    sheet.known(Call::Word { take: &EXAMPLE, index: 0, room: 6 }, "sure 1 5 1 0 1 000000000000");
+    sheet.known(Call::Word { take: &EXAMPLE, index: 0, room: 6 }, "sure 1 9 1 0 1 000000000000");
     sheet.known(Call::Word { take: &EXAMPLE, index: 1, room: 6 }, "lost 1 070707070707");
 }
 

@@ -1,5 +1,5 @@
 //! 2,688 drawn words for the soft stage: of every m, t and depth, of four lengths and eight kinds. The answers are the second
-//! implementation's, which writes out every test word.
+//! implementation's, which writes out every test word. Before them stands a word that is hardly ever drawn, with its answer.
 
 use crate::call::Call;
 use crate::draw::Xorshift;
@@ -94,6 +94,8 @@ fn word(number: usize) -> Word {
 }
 
 pub fn add(sheet: &mut Sheet) {
+    sheet.part("a sure candidate that is as near as a fair one before it");
+    add_as_near(sheet);
     sheet.part("2688 drawn words for the soft stage; under each heading every m and t at depth 0, then at 1, and so on to 6");
     for number in 0..WORDS {
         if number % TOGETHER == 0 {
@@ -105,6 +107,17 @@ pub fn add(sheet: &mut Sheet) {
         count(sheet, &word);
     }
     sheet.totals();
+}
+
+/// Two codewords of the code m 5, t 2, n 14 are none set and {0, 2, 7, 8, 13}. Received is {0, 2}, both with z 3; z is 5, 1 and 0 at 7, 8
+/// and 13, and 4 elsewhere. Test word 0 gives none set: q 2, L 3 + 3 and A 0 + 1 + 4. Test word 1, with 13 flipped, gives the other: q 3,
+/// L 5 + 1 + 0 and A 3 + 3.
+fn add_as_near(sheet: &mut Sheet) {
+    let (code, symbols) = (Code::new(5, 2, 14), [19, 4, 19, 4, 4, 4, 4, 5, 1, 4, 4, 4, 4, 0]);
+    sheet.heading("as near, depth 0");
+    sheet.known(Call::Soft { code, depth: 0, symbols: &symbols, room: 14 }, "fair 6 -1 2 0 1 0000000000000000000000000000");
+    sheet.heading("as near, depth 1");
+    sheet.known(Call::Soft { code, depth: 1, symbols: &symbols, room: 14 }, "sure 6 0 3 1 2 0100010000000001010000000001");
 }
 
 /// Counts the rarer ways of the search that a word takes.
