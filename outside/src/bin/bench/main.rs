@@ -1,6 +1,6 @@
 //! Prints one table: how long the receiver's calls take, and beside them what may be used in their place, on the same inputs. Where one
 //! of these answers otherwise than the receiver, the program says so and ends with status 1. (Not compared are the textbook's tries, and
-//! IT++ on words with more than t errors.)
+//! IT++ on words with more than t errors.) Arguments name calls: the rows of others are left out.
 mod c;
 mod calls;
 mod draw;
@@ -11,8 +11,8 @@ mod takelist;
 
 use draw::{HEAVY, LIGHT, STRONG};
 use outside::reference::Code;
-use std::fs;
 use std::process::ExitCode;
+use std::{env, fs};
 use table::Line;
 
 /// How often the whole table is measured: the least time of each cell counts, so a busy minute does no harm.
@@ -24,7 +24,14 @@ const LONG: Code = Code::new(8, 3, 255);
 /// The shortest code. Its takes have the most words.
 const SHORTEST: Code = Code::new(5, 1, 6);
 
+/// The calls that have rows.
+const CALLS: [&str; 6] = ["encode", "hard", "soft", "read_take", "quantise", "takelist"];
+
 fn main() -> ExitCode {
+    if env::args().skip(1).any(|name| !CALLS.contains(&name.as_str())) {
+        eprintln!("usage: bench [CALL...], where CALL is one of {}", CALLS.join(", "));
+        return ExitCode::from(2);
+    }
     print_setting();
     match measure() {
         Ok(lines) => {
@@ -78,34 +85,50 @@ fn measure() -> Result<Vec<Line>, String> {
     Ok(lines)
 }
 
+/// Whether the rows of a call are asked for.
+fn asked(call: &str) -> bool {
+    let mut names = env::args().skip(1).peekable();
+    names.peek().is_none() || names.any(|name| name == call)
+}
+
 fn sweep() -> Result<Vec<Line>, String> {
     let mut lines = Vec::new();
     for code in CODES {
-        lines.push(calls::encode(code)?);
-        for errors in [0, code.t, code.t + 1] {
-            lines.push(calls::hard(code, errors)?);
+        if asked("encode") {
+            lines.push(calls::encode(code)?);
         }
-    }
-    for code in [SHORT, LONG] {
-        for channel in [LIGHT, HEAVY] {
-            for depth in [0, 3, 6] {
-                lines.push(calls::soft(code, channel, depth)?);
+        if asked("hard") {
+            for errors in [0, code.t, code.t + 1] {
+                lines.push(calls::hard(code, errors)?);
             }
         }
     }
-    for (code, words) in [(SHORT, 900), (SHORT, 4000), (LONG, 200), (LONG, 2000)] {
-        for channel in [LIGHT, HEAVY] {
-            for depth in [0, 3, 6] {
-                lines.push(calls::read_take(code, words, channel, depth)?);
+    if asked("soft") {
+        for code in [SHORT, LONG] {
+            for channel in [LIGHT, HEAVY] {
+                for depth in [0, 3, 6] {
+                    lines.push(calls::soft(code, channel, depth)?);
+                }
             }
         }
     }
-    for (code, words) in [(SHORT, 4000), (LONG, 2000)] {
-        lines.push(calls::read_take(code, words, STRONG, 0)?);
+    if asked("read_take") {
+        for (code, words) in [(SHORT, 900), (SHORT, 4000), (LONG, 200), (LONG, 2000)] {
+            for channel in [LIGHT, HEAVY] {
+                for depth in [0, 3, 6] {
+                    lines.push(calls::read_take(code, words, channel, depth)?);
+                }
+            }
+        }
+        for (code, words) in [(SHORT, 4000), (LONG, 2000)] {
+            lines.push(calls::read_take(code, words, STRONG, 0)?);
+        }
     }
-    lines.push(calls::quantise("no blanks", false)?);
-    lines.push(calls::quantise("half of them blank", true)?);
-    if let Some(program) = takelist::program() {
+    if asked("quantise") {
+        lines.push(calls::quantise("no blanks", false)?);
+        lines.push(calls::quantise("half of them blank", true)?);
+    }
+    if let Some(program) = takelist::program().filter(|_| asked("takelist")) {
         for code in [SHORT, LONG, SHORTEST] {
             lines.push(takelist::line(&program, code)?);
         }
