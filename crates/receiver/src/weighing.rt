@@ -99,21 +99,29 @@ pub fn weigh(s: &[u8], keys: Keys, p: usize, j: usize, start: u32, f: Flips) -> 
     Weight { q, sum }
 }
 
-// Whether x is one of the positions.
+// Whether x is one of the positions. (Written out: a loop would choose its position each time.)
 fn is_among(f: Flips, x: usize) -> bool
     requires { ⌜ (f .count ≤ 3) × (length (f .at) ≡ 3) ⌝ }
     ensures { λ r. ⌜ r ≡ isIn x (flipsOf f) ⌝ }
 {
     let places = f.at;
     let count = f.count;
-    let mut a = 0;
-    while a < count {
-        if locate::entry_of(places, a) == x {
-            return true;
-        }
-        a += 1;
+    if count == 0 {
+        return false;
     }
-    false
+    if places[0] == x {
+        return true;
+    }
+    if count == 1 {
+        return false;
+    }
+    if places[1] == x {
+        return true;
+    }
+    if count == 2 {
+        return false;
+    }
+    places[2] == x
 }
 
 // Whether a candidate flips position x: where it is one of those located, or the test word flips it, which the lowest bit of r tells, and not
@@ -131,7 +139,7 @@ fn turns(f: Flips, r: usize, x: usize) -> bool
 
 // A: the sum of the d - q smallest reliabilities among the positions that the candidate does not flip, which is test word j flipped at f. They
 // are among the d smallest of all (`allowance-first`, chase `ranking.Unflipped`), and bit k of j tells whether the test word flips the
-// position of key k.
+// position of key k. (`full` counts the flips and what is summed, d in all.)
 pub fn allowance(keys: Keys, d: usize, j: usize, q: u32, f: Flips) -> u32
     requires { ⌜ (length (keys .at) ≡ 6) × (length (keys .more) ≡ 2) × (d ≤ 8) × (f .count ≤ 3) × (length (f .at) ≡ 3) ⌝ }
     ensures { λ r. ⌜ r ≡ unflippedSum (flipsOf f) j (d - q) (take d (keys .at ++ keys .more)) ⌝ }

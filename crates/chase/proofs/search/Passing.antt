@@ -3,10 +3,8 @@
 use Prim.Native.Nat.{ℕ, _+_, _-_, _^_, _≤_, _<_}
 use native.Mathlib.Omega.{arith}
 use mathlib.Core.Path.{_≡_, refl, ap, sym, subst, _∙_}
-use mathlib.Core.Bool.{Bool, true, false}
 use mathlib.Core.List.{List}
 use mathlib.Core.Option.{Option, none, some, Option·map}
-use lib.Dec.{ltb}
 use lib.ListN.{length}
 use Rattle.bch.specs.Code.{Code, Codeword, wordLength}
 use Rattle.bch.proofs.codes.Settings.{Lawful}
@@ -29,17 +27,6 @@ BestBacked code ss best = (b : Candidate) → best ≡ some b → Backed code ss
 -- at the start there is none
 pub backed-none : (code : Code) (ss : List ℕ) → BestBacked code ss none
 backed-none code ss b e = absurd (let z : _≡_ {A = ℕ} 0 1 = cc in omega arith)
-
--- of two such the better one is such
-pub backed-better : (code : Code) (ss : List ℕ) (best : Option Candidate) (k : Candidate) → BestBacked code ss best → Backed code ss k
-    → BestBacked code ss (better best k)
-unfolding better
-backed-better code ss none k h n b e = let q : k ≡ b = cc in subst (Backed code ss) q n
-backed-better code ss (some a) k h n b e = go (ltb (k .L) (a .L)) e
-  where
-    go : (x : Bool) → some (elim x [ true ↦ k | false ↦ a ]) ≡ some b → Backed code ss b
-    go true e = let q : k ≡ b = cc in subst (Backed code ss) q n
-    go false e = let q : a ≡ b = cc in subst (Backed code ss) q (h a refl)
 
 module _ (code : Code) (isCode : Lawful code) (p : ℕ) (ss : List ℕ) (long : length ss ≡ wordLength code) (symbols : Symbols ss) (j : ℕ) (below : j < 2 ^ p)
     (k : Candidate) (given : Option·map (candidate code p ss j) (tried code p ss j) ≡ some k) where

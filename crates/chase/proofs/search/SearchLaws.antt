@@ -181,13 +181,12 @@ module _ (code : Code) (isCode : Lawful code) (p : ℕ) (ss : List ℕ) (long : 
   right-test : (j : ℕ) → Bits (test p ss j)
   right-test j = bits-test j (weakest p ss) (hardBits ss) (bits-hard ss symbols)
 
-  -- what a try gives is a codeword within t flips of its test word, ..
+  -- what a try gives is a codeword within t flips of its test word
   pub near-tried : (j : ℕ) (c : List ℕ) → j < 2 ^ p → tried code p ss j ≡ some c → Near code p ss j c
   unfolding tried
   near-tried j c h e = let (w, n) = repaired-some code (test p ss j) (long-test j) (right-test j) c e in record { codeword = w; tried = h; near = n }
 
-  -- .. and each such codeword is what it gives
-  pub tried-near : (j : ℕ) (c : List ℕ) → Near code p ss j c → tried code p ss j ≡ some c
+  tried-near : (j : ℕ) (c : List ℕ) → Near code p ss j c → tried code p ss j ≡ some c
   unfolding tried
   tried-near j c n = repaired-near code isCode (test p ss j) (long-test j) (right-test j) c (n .codeword) (n .near)
 

@@ -68,7 +68,7 @@ front-with (suc k) r (s ∷ rs) = go (leb (r .z) (s .z)) (front-with k r rs)
 -- ---- the positions that a word does not flip
 
 -- they are those that are left
-pub length-unflipped : (zs xs ys : List ℕ) → length xs ≡ length zs → length ys ≡ length zs → length (unflipped zs xs ys) + flips xs ys ≡ length zs
+length-unflipped : (zs xs ys : List ℕ) → length xs ≡ length zs → length ys ≡ length zs → length (unflipped zs xs ys) + flips xs ys ≡ length zs
 unfolding unflipped flips
 length-unflipped [] [] ys l m = refl
 length-unflipped [] (x ∷ xs) ys l m = absurd (omega arith)
