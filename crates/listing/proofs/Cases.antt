@@ -1,4 +1,4 @@
--- Worked cases of the text: the lines of document 01's example ("Small code, two codewords"), a fair word with a negative margin, a refusal,
+-- Worked cases of the text: the lines of document 01's example ("Small code, two codewords", with the margin of request 2), a fair word with a negative margin, a refusal,
 -- and numbers of one, two and twenty digits. Assumes nothing.
 use mathlib.Core.Path.{_≡_, refl}
 use mathlib.Core.List.{[], _∷_}
@@ -8,7 +8,7 @@ use Rattle.listing.specs.Text.{ascii, decimal, digits, signed, markName,
 
 -- ---- the example
 
-example-sure : wordLine 0 (record { mark = sure; distance = 1; margin = pos 5; flips = 1; place = 0; tries = 1; word = [] }) (0 ∷ [])
+example-sure : wordLine 0 (record { mark = sure; distance = 1; margin = pos 9; flips = 1; place = 0; tries = 1; word = [] }) (0 ∷ [])
     ≡ ascii "0 sure 1 9 1 0\n"
 unfolding wordLine line markName messageText bitsText signed decimal digits ascii
 example-sure = refl
