@@ -450,6 +450,6 @@ fn refusals_are_errors() {
 fn marks_of_answers() {
     let mark = |depth, bits, z| decode_soft(code_e(), depth, &symbols(bits, z), &mut [0; 6]).unwrap().mark();
     assert_eq!(mark(0, "110000", [1; 6]), Mark::Lost);
-    assert_eq!(mark(2, "110000", [1, 1, 5, 5, 5, 5]), Mark::Fair);
+    assert_eq!(mark(2, "100000", [9, 1, 2, 1, 1, 2]), Mark::Fair);
     assert_eq!(mark(0, "100000", [1, 5, 5, 5, 5, 5]), Mark::Sure);
 }
