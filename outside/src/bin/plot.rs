@@ -60,7 +60,7 @@ fn wrong_marks() -> Picture {
     Picture {
         title: "How many of the fair words and of the sure words are wrong",
         subtitle:
-            "Codes (n, k, t); BPSK, Gaussian noise, reliabilities of 0 to 15; sure words are shown at depth 4, and differ little by depth",
+            "Codes (n, k, t); BPSK, Gaussian noise, reliabilities of 0 to 15; sure words are shown at depth 4, and differ little from depth 1 on",
         axis: "wrong among the words so marked",
         exponents: (-7, 0),
         dashed: None,
