@@ -4,6 +4,7 @@
 //         encoder::Encoded::Written => { .. }         // parity at positions 0 to 11, the message's 51 bits behind it
 //         encoder::Encoded::Refused(r) => { .. }      // r.number, r.place: the buffer is as it was
 //     }
+#![tactic(auto)]
 ghost use Rattle.std.specs.Prelude.{◌≡◌};
 ghost use Rattle.bch.specs.Code.{code};
 ghost use Rattle.take_format.specs.Refusal.{encode_refusal};

@@ -1,12 +1,12 @@
 -- Laws of text that is written into a buffer piece by piece: one character, one more of a row, and one text behind another.
 -- Assumes nothing.
-use Prim.Native.Nat.{ℕ, ◌+◌, ◌-◌, ◌≤◌, ◌<◌}
+use Prim.Native.Nat.{ℕ, ◌+◌, ◌≤◌, ◌<◌}
 use native.Mathlib.Omega.{arith}
 use native.Mathlib.Numerals.{add-one}
 use mathlib.Core.Path.{◌≡◌, refl, ap, ap₂, sym, subst, ◌∙◌}
 use mathlib.Core.List.{List, [], ◌∷◌, ◌++◌, append_assoc, append-nil}
-use lib.ListN.{length, take, drop, get_or, set, replicate, length-append, length-take, length-drop, length-map, take-append-drop, drop_of_length-le, get_or-map}
-use lib.Seq.{paste, paste-suc, take-length, take_all, set_split, append_snoc, take_at, drop_at, drop-drop, length-take-le}
+use lib.ListN.{length, take, drop, get_or, set, length-append, length-drop, length-map, take-append-drop, get_or-map}
+use lib.Seq.{paste, paste-suc, take-length, set_split, append_snoc, take_at, drop_at, drop-drop, length-take-le}
 use Rattle.listing.specs.Text.{bits_text}
 use Rattle.listing.specs.Buffer.{Put}
 
@@ -40,22 +40,6 @@ pub put_all : (old : List ℕ) (at : ℕ) (new now : List ℕ) (i : ℕ) → at 
     → Put old at new now (at + i)
 put_all old at new now i h e p = record { room = h; ends = ap (λ (k : ℕ). at + k) e; holds = p ∙ rw (e, take-length) refl }
 
--- a copy from a place on, given back
-pub put_copy : (old : List ℕ) (at : ℕ) (new part : List ℕ) → at + length new ≤ length old
-    → part ≡ take (length new) new ++ drop (length new) (take (length old - at) (drop at old))
-    → Put old at new (take at old ++ (part ++ drop (length old - at) (drop at old))) (at + length new)
-put_copy old at new part h e =
-    let rest = drop at old in
-    let all : take (length old - at) rest ≡ rest = take_all (length old - at) rest (omega (arith, length-drop at old)) in
-    let none : drop (length old - at) rest ≡ [] = drop_of_length-le rest (let l : length rest ≤ length old - at = omega (arith, length-drop at old) in l) in
-    record {
-      room = h;
-      ends = refl;
-      holds =
-          rw (e, all, none, take-length, append-nil, drop-drop (length new) at old)
-          (sym (append_assoc (take at old) new (drop (at + length new) old)));
-    }
-
 -- one text behind another
 pub then : {old mid now a b : List ℕ} {at next end : ℕ} → Put old at a mid next → Put mid next b now end → Put old at (a ++ b) now end
 then {old} {mid} {now} {a} {b} {at} {next} {end} p q =
@@ -84,10 +68,6 @@ then {old} {mid} {now} {a} {b} {at} {next} {end} p q =
     }
 
 -- ---- bits
-
--- of a codeword buffer of 1,023 bytes the first n are lent
-pub lent_long : (n : ℕ) → n ≤ 1023 → length {A = ℕ} (take n (replicate 1023 0)) ≡ n
-lent_long n h = omega (arith, length-take {A = ℕ} n (replicate 1023 0))
 
 -- as many characters as bits, ..
 pub bits_long : (bs : List ℕ) → length (bits_text bs) ≡ length bs

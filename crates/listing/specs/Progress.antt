@@ -2,10 +2,11 @@
 use Rattle.std.specs.Prelude.{ℕ, ◌*◌, ◌+◌, ◌≤◌, ◌≡◌, List, length, drop}
 use Rattle.bch.specs.Words.{Bits}
 use Rattle.bch.specs.Code.{word_length, message_length}
-use Rattle.take_format.specs.Batch.{mark_byte, counted_of}
-use Rattle.take_format.specs.Take.{Header}
+use Rattle.chase.specs.Soft.{Answer, soft_stage}
+use Rattle.take_format.specs.Batch.{part, mark_byte, answers_to, totals_of, counted_of}
+use Rattle.take_format.specs.Take.{Header, header}
+use Rattle.take_format.proofs.checks.Accepted.{Opened}
 use Rattle.take_format.proofs.takes.Batches.{Few}
-use Rattle.take_format.proofs.takes.Reading.{Reading, answer_at, totals_to}
 use Rattle.receiver.specs.Answer.{totals_told}
 use Rattle.listing.specs.Buffer.{Put}
 use Rattle.listing.specs.Takelist.{line_at, lines_of}
@@ -13,13 +14,18 @@ use Rattle.listing.specs.declared.output.Progress.{Progress}
 
 -- a take that is opened and short enough, by what was read of its header
 pub record Listable (bs : List ℕ) (h : Header) : Type 0 where
-  pub reading : Reading bs h
+  pub read : h ≡ header bs
+  pub opened : Opened bs
   pub short : length bs ≤ 65536
 
 -- a buffer for codewords that holds bits
 pub record Lent (h : Header) (codeword : List ℕ) : Type 0 where
   pub long : length codeword ≡ word_length h.code
   pub bits : Bits codeword
+
+-- the answer to word w
+abbrev pub answer_at : List ℕ → Header → ℕ → Answer
+answer_at bs h w = soft_stage h.code h.depth (part (word_length h.code) w (drop h.offset bs))
 
 -- word w is listed behind those before it
 pub record Step (bs : List ℕ) (h : Header) (w : ℕ) (k : Progress) (old now : List ℕ) (r : Progress) : Type 0 where
@@ -32,5 +38,5 @@ pub record Step (bs : List ℕ) (h : Header) (w : ℕ) (k : Progress) (old now :
 pub record Listed (bs : List ℕ) (h : Header) (w : ℕ) (old now : List ℕ) (k : Progress) : Type 0 where
   pub text : Put old 0 (lines_of h.code h.depth w (drop h.offset bs)) now k.at
   pub at_most : k.at ≤ w * (message_length h.code + 81)
-  pub totals : totals_told k.totals ≡ totals_to bs h w
+  pub totals : totals_told k.totals ≡ totals_of (answers_to h.code h.depth w (drop h.offset bs))
   pub few : Few w (totals_told k.totals)

@@ -3,6 +3,7 @@
 //     let length = listing::list(&input, &mut text);  // text[..length] is the output
 //
 // The rest is in the private modules `put` (fields), `lines` and `output` (the lines of a take).
+#![tactic(auto)]
 ghost use Rattle.std.specs.Prelude.{◌≤◌, ◌≡◌, length};
 ghost use Rattle.listing.specs.Takelist.{takelist, over};
 

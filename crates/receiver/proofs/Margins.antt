@@ -13,7 +13,7 @@ use Rattle.chase.proofs.weighing.Sizes.{mag_sub}
 
 -- the difference fits
 pub sub_sfits : (a b : ℕ) → a < 65536 → b < 65536 → SFits w32 (sub_ℕ a b)
-sub_sfits a b ha hb = sfits_of (omega (arith, mag_sub a b 65536 (omega arith) (omega arith)))
+sub_sfits a b ha hb = sfits_of (omega (arith, mag_sub a b 65536 ha (omega arith)))
 
 diff : (a b : ℕ) → pos a -ℤ pos b ≡ sub_ℕ a b
 diff a zero = rw (le-ltb a 0 (omega arith)) (ap pos (omega arith))

@@ -131,8 +131,8 @@ soft_room c p symbols codeword a e =
       flips = omega (arith, small.flips, ok.depth);
       tries = omega (arith, small.tries, deep);
       place = omega (arith, small.place, deep);
-      distance = omega (arith, small.distance, small.flips, ok.depth);
-      margin = omega (arith, small.margin, ok.depth);
+      distance = omega (arith, small.distance);
+      margin = small.margin;
     })
 
 -- the same of the answer that is told

@@ -5,6 +5,7 @@
 // call is that check and then its stage, with the record handed on: so nothing is validated and then forgotten, and a stage has nothing to
 // refuse. A call hands over its buffer's length, and not the buffer: a check can't write to it. What another crate can call here has no
 // `requires`.
+#![tactic(auto)]
 ghost use Rattle.std.specs.Prelude.{◌≡◌, ◌*◌, ◌≤◌, ◌^◌, drop};
 ghost use Rattle.std.proofs.Common.{inl};
 ghost use Rattle.galois.specs.Field.{poly};

@@ -2,6 +2,7 @@
 //
 // All that is printed is the text that `listing::list` writes. One byte more is read than the program accepts, so that longer input is told
 // apart.
+#![tactic(auto)]
 use libc::{STDIN_FILENO, STDOUT_FILENO};
 
 fn main() {

@@ -61,7 +61,7 @@ module _ {F : Type 0} {𝟘 𝟙 : F} {◌⊕◌ ◌⊗◌ : F → F → F} (K :
   pub locator1_roots : (A : List F) → length A ≤ 1 → (v w : F) → w ⊗ v ≡ 𝟙 → (locator1 K (power1 K A) v ≡ 𝟘) ↔ Memᴰ w A
   locator1_roots [] l v w h = (
     λ e. absurd (K.one_not_zero (solve K (v ∷ []) one (one ⊞ nil ⊠ v0) refl ∙ e)),
-    λ m. absurd (Memᴰ.not_nil m),
+    λ m. absurd (Memᴰ.not-nil m),
   )
   locator1_roots (x ∷ []) l v w h = (
     λ e. Memᴰ.head (cancel K v w x nv (K.⊗-comm v w ∙ h ∙ equal_of_sum K 𝟙 ((x ⊕ 𝟘) ⊗ v) e ∙ flat)),

@@ -131,6 +131,7 @@ module _ {F : Type 0} {𝟘 𝟙 : F} {◌⊕◌ ◌⊗◌ : F → F → F} (K :
   zero_third a b c h = rw h (K.⊗-zero (a ⊗ b))
 
   at_of_member : (A : List F) (w : F) → Memᴰ w A → (i : ℕ) × (i < length A) × (w ⊕ get_or A i 𝟘 ≡ 𝟘)
+  at_of_member [] w x' = elim x' [ ]
   at_of_member (x ∷ A) w (Memᴰ.head e) = (0, omega arith, sum_of_equal K e)
   at_of_member (x ∷ A) w (Memᴰ.tail m) = let r = at_of_member A w m in (suc r.0, omega arith, r.2)
 
@@ -175,6 +176,7 @@ module _ {F : Type 0} {𝟘 𝟙 : F} {◌⊕◌ ◌⊗◌ : F → F → F} (K :
 
   -- a member is not 0
   pub not_zero : (A : List F) → Errors A → (a : F) → Memᴰ a A → a ≡ 𝟘 → ⊥
+  not_zero [] ok a x3 e = elim x3 [ ]
   not_zero (x ∷ A) ok a (Memᴰ.head d) e = ok.0 (sym d ∙ e)
   not_zero (x ∷ A) ok a (Memᴰ.tail m) e = not_zero A ok.2 a m e
 
@@ -182,10 +184,10 @@ module _ {F : Type 0} {𝟘 𝟙 : F} {◌⊕◌ ◌⊗◌ : F → F → F} (K :
 
   -- t = 1
   pub unique1 : (A B : List F) → Errors A → length A ≤ 1 → length B ≤ 1 → power1 A ≡ power1 B → (a : F) → Memᴰ a A → Memᴰ a B
-  unique1 [] B ok l k e a m = absurd (Memᴰ.not_nil m)
+  unique1 [] B ok l k e a m = absurd (Memᴰ.not-nil m)
   unique1 (x ∷ []) [] ok l k e a m = absurd (ok.0 (sym (K.⊕-zero x) ∙ e))
   unique1 (x ∷ []) (y ∷ []) ok l k e a (Memᴰ.head d) = Memᴰ.head (d ∙ sym (K.⊕-zero x) ∙ e ∙ K.⊕-zero y)
-  unique1 (x ∷ []) (y ∷ []) ok l k e a (Memᴰ.tail m) = absurd (Memᴰ.not_nil m)
+  unique1 (x ∷ []) (y ∷ []) ok l k e a (Memᴰ.tail m) = absurd (Memᴰ.not-nil m)
   unique1 (x ∷ []) (y ∷ z ∷ B) ok l k e a m = absurd (omega arith)
   unique1 (x ∷ y ∷ A) B ok l k e a m = absurd (omega arith)
 
@@ -229,7 +231,7 @@ module _ {F : Type 0} {𝟘 𝟙 : F} {◌⊕◌ ◌⊗◌ : F → F → F} (K :
       zero_at = sym (reverse2_of B k a) ∙ rw (← s1, ← s3) (reverse2_of A l a ∙ rw (root_of_member A (omega arith) a m) (K.⊗-zero (power1 A)))
 
       go : Dec (power1 A ≡ 𝟘) → Memᴰ a B
-      go (yes e) = absurd (Memᴰ.not_nil (rw (no_element A okA l e) at m))
+      go (yes e) = absurd (Memᴰ.not-nil (rw (no_element A okA l e) at m))
       go (no n) = member_of_root B a (not_zero A okA a m) (two_factors K (power1 B) (roots_of B a) zero_at (λ e. n (s1 ∙ e)))
 
   -- at most t elements with the same power sums are the same elements
@@ -251,7 +253,7 @@ module _ {F : Type 0} {𝟘 𝟙 : F} {◌⊕◌ ◌⊗◌ : F → F → F} (K :
   total_append f (x ∷ A) B = rw (total_append f A B) (sym (K.⊕-assoc (f x) (total f A) (total f B)))
 
   member_take : (n : ℕ) (A : List F) (a : F) → Memᴰ a (take n A) → Memᴰ a A
-  member_take zero A a m = absurd (Memᴰ.not_nil m)
+  member_take zero A a m = absurd (Memᴰ.not-nil m)
   member_take (suc n) [] a m = m
   member_take (suc n) (x ∷ A) a (Memᴰ.head d) = Memᴰ.head d
   member_take (suc n) (x ∷ A) a (Memᴰ.tail m) = Memᴰ.tail (member_take n A a m)

@@ -49,8 +49,8 @@ pub record At (q : ℕ) (xs ys : List ℕ) : Type 0 where
 pub at_words : (q : ℕ) (xs ys : List ℕ) → Bits xs → Memᴰ ys (words_at q xs) → At q xs ys
 unfolding words_at flips Below
 at_words zero xs ys b (Memᴰ.head e) = rw e (record { long = refl; bits = b; count = flips_same xs })
-at_words zero xs ys b (Memᴰ.tail m) = absurd (Memᴰ.not_nil m)
-at_words (suc q) [] ys b m = absurd (Memᴰ.not_nil m)
+at_words zero xs ys b (Memᴰ.tail m) = absurd (Memᴰ.not-nil m)
+at_words (suc q) [] ys b m = absurd (Memᴰ.not-nil m)
 at_words (suc q) (x ∷ xs) ys b m =
     go (λ w. at_words q xs w b.1) (λ w. at_words (suc q) xs w b.1)
     (Memᴰ.append_cases (map (λ (ys : List ℕ). (1 - x) ∷ ys) (words_at q xs)) m)

@@ -33,6 +33,7 @@ Rising low high (p ∷ P) = (low ≤ p) × (p < high) × Rising (suc p) high P
 -- a member is within the bounds
 pub rising_member : (low high : ℕ) (P : List ℕ) → Rising low high P → (p : ℕ) → Memᴰ p P → (low ≤ p) × (p < high)
 unfolding Rising
+rising_member low high [] r p x'' = elim x'' [ ]
 rising_member low high (q ∷ P) r p (Memᴰ.head e) = (omega (arith, r.0), omega (arith, r.1))
 rising_member low high (q ∷ P) r p (Memᴰ.tail k) =
     let i : (suc q ≤ p) × (p < high) = rising_member (suc q) high P r.2 p k in

@@ -143,7 +143,7 @@ module _ (m : ℕ) (g : Primitive m) where
 
   single_covers : (A : List (El m)) → Errors K A → length A ≤ 1 → Covers m (single (power1 K A).0) A
   unfolding single
-  single_covers [] ok l = record { inside = λ a k. absurd (Memᴰ.not_nil k); short = omega arith }
+  single_covers [] ok l = record { inside = λ a k. absurd (Memᴰ.not-nil k); short = omega arith }
   single_covers (x ∷ []) ok l =
       subst (λ (C : List ℕ). Covers m C (x ∷ [])) (sym (ap single (xor_zero_r x.0) ∙ zero-not x.0 [] (x.0 ∷ []) (not_nil x ok.0)))
       (record { inside = λ a k. mapping (λ (y : El m). y.0) k; short = omega arith })

@@ -133,6 +133,7 @@ nonzero_short (x ∷ l) =
 
 nonzero_shorter : (l : List ℕ) → Memᴰ 0 l → length (nonzero l) < length l
 unfolding nonzero ifZero
+nonzero_shorter [] x' = elim x' [ ]
 nonzero_shorter (x ∷ l) (Memᴰ.head e) = omega (arith, nonzero_short l, ap length (zero_is x (nonzero l) (x ∷ nonzero l) (sym e)))
 nonzero_shorter (x ∷ l) (Memᴰ.tail k) =
     let h : length (nonzero l) < length l = nonzero_shorter l k in
@@ -140,6 +141,7 @@ nonzero_shorter (x ∷ l) (Memᴰ.tail k) =
 
 nonzero_member : (a : ℕ) (l : List ℕ) → a ≢ 0 → Memᴰ a l → Memᴰ a (nonzero l)
 unfolding nonzero
+nonzero_member a [] n x'' = elim x'' [ ]
 nonzero_member a (x ∷ l) n (Memᴰ.head e) =
     subst (Memᴰ a) (sym (zero-not x (nonzero l) (x ∷ nonzero l) (λ z. n (e ∙ z)))) (Memᴰ.head e)
 nonzero_member a (x ∷ l) n (Memᴰ.tail k) = go (ℕ_discrete x 0) (nonzero_member a l n k)

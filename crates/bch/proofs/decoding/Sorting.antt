@@ -153,6 +153,7 @@ record Without (p : ℕ) (Q : List ℕ) : Type 0 where
 
 without : (p : ℕ) (Q : List ℕ) → Memᴰ p Q → Without p Q
 unfolding sorted
+without p [] x' = elim x' [ ]
 without p (q ∷ Q) (Memᴰ.head e) =
     record { rest = Q; long = refl; again = ap (λ (x : ℕ). insert x (sorted Q)) (sym e); kept = λ x n k. pick x n k }
   where

@@ -14,14 +14,14 @@ use lib.Pow.{pow_pos}
 use lib.Signed.{mag}
 use Rattle.bch.specs.Words.{flips, flip}
 use Rattle.bch.specs.Code.{Code, word_length, design_distance}
-use Rattle.bch.proofs.codes.Settings.{Lawful}
+use Rattle.bch.proofs.codes.Settings.{Lawful, word_short}
 use Rattle.bch.proofs.codes.Counting.{flips_triangle, flips_flip, flips_same}
 use Rattle.chase.specs.Soft.{hard_bits, reliabilities, Ranked, insert_ranked, rank, sum, smallest_sum, unflipped, allowance, test_word, Answer}
 use Rattle.chase.specs.Soft.{Mark, lost, fair, sure, lost_answer, soft_stage}
 use Rattle.chase.specs.Word.{Symbols, weakest, test, soft_distance, allowed, WordWeighed}
 use Rattle.chase.proofs.ranking.Keys.{reliability_lt}
-use Rattle.chase.proofs.test_words.Reach.{length_hard, length_test}
-use Rattle.chase.proofs.weighing.Weights.{distance_flips}
+use Rattle.chase.proofs.test_words.Reach.{length_reliabilities, length_hard, length_test}
+use Rattle.chase.proofs.weighing.Weights.{distance_most}
 use Rattle.chase.proofs.ranking.Ranking.{weak_length}
 use Rattle.chase.proofs.search.SearchLaws.{lost_sure, lost_fair, sure_fair, word_weighed}
 
@@ -85,20 +85,19 @@ test_flips j (w ∷ ws) xs =
 -- ---- the answer
 
 -- a difference of two small numbers is small
-pub mag_sub : (a b most : ℕ) → a ≤ most → b ≤ most → mag (sub_ℕ a b) ≤ most
+pub mag_sub : (a b most : ℕ) → a < most → b ≤ most → mag (sub_ℕ a b) < most
 mag_sub a b most ha hb =
     elim (dec_lt a b) [
       | yes h ↦ rw (lt-ltb a b h) (omega arith)
       | no h ↦ rw (le-ltb a b (omega arith)) (omega arith)
     ]
 
--- a candidate has at most p + t flips, each of at most 15, and A at most 2t + 1 positions
 pub record SmallAnswer (p : ℕ) (a : Answer) : Type 0 where
   pub flips : a.flips ≤ p + 3
   pub tries : a.tries ≤ 2 ^ p
   pub place : a.place < 2 ^ p
-  pub distance : a.distance ≤ 15 * a.flips
-  pub margin : mag a.margin ≤ 15 * (p + 7)
+  pub distance : a.distance ≤ 15345
+  pub margin : mag a.margin < 32768
 
 module _ (code : Code) (is_code : Lawful code) (p : ℕ) (ss : List ℕ) (long : length ss ≡ word_length code) (symbols : Symbols ss) where
   small_found : (a : Answer) → WordWeighed code p ss a → a.mark ≢ lost → a.tries ≤ 2 ^ p → SmallAnswer p a
@@ -109,23 +108,24 @@ module _ (code : Code) (is_code : Lawful code) (p : ℕ) (ss : List ℕ) (long :
       let t = test p ss a.place in
       let xs = hard_bits ss in
       let alike = near.codeword.long ∙ sym (length_test a.place (weakest p ss) xs ∙ length_hard ss ∙ long) in
-      let L = distance_flips (reliabilities ss) word xs (λ i. reliability_lt ss i) in
-      let few : flips word xs ≤ p + 3 = omega (
-        arith,
-        flips_triangle word t xs alike,
-        near.near,
-        is_code.t_most,
-        test_flips a.place (weakest p ss) xs,
-        weak_length p (reliabilities ss),
-      ) in
+      let L = distance_most (reliabilities ss) word xs (λ i h. reliability_lt ss i) in
+      let short = word_short code is_code in
       record {
-        flips = omega (arith, q, few);
+        flips = omega (
+          arith,
+          q,
+          flips_triangle word t xs alike,
+          near.near,
+          is_code.t_most,
+          test_flips a.place (weakest p ss) xs,
+          weak_length p (reliabilities ss),
+        );
         tries = most;
         place = near.tried;
-        distance = omega (arith, dist, q, L);
+        distance = omega (arith, dist, L, length_reliabilities ss, long, short);
         margin =
-            rw gap (mag_sub (allowed code ss word) (soft_distance ss word) (15 * (p + 7)) (omega (arith, allowed_most code ss word, is_code.t_most))
-            (omega (arith, L, few)));
+            rw gap (mag_sub (allowed code ss word) (soft_distance ss word) 32768 (omega (arith, allowed_most code ss word, is_code.t_most))
+            (omega (arith, L, length_reliabilities ss, long, short)));
       }
 
   -- the soft stage's answer is small

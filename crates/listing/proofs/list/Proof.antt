@@ -40,7 +40,7 @@ list-take-requires c κs =
     let bs = c.before.before.before.before.before.before.before.args.input.now in
     let e = sym (ap opening_of c.before.before.h.given.1) ∙ c.before.before.before.before.open-take.ensures in
     let (n, q) = answered_inr (open_refusal bs) (header bs) _ e in
-    (record { reading = record { read = q; opened = opened_take bs (sym n) }; short = c.before.before.before.before.before.if1.false }, search rules)
+    (record { read = q; opened = opened_take bs (sym n); short = c.before.before.before.before.before.if1.false }, search rules)
 
 returns-2 : tie.Need-returns-2
 unfolding opening_of open_text

@@ -13,9 +13,9 @@ use Rattle.receiver.specs.Answer.{totals_told}
 use Rattle.receiver.proofs.Marks.{counts}
 use Rattle.takes.specs.Answer.{header_of}
 use Rattle.listing.specs.Takelist.{line_at}
+use Rattle.listing.specs.Progress.{answer_at}
 use Rattle.listing.proofs.Texts.{same_text}
-use Rattle.take_format.proofs.takes.Reading.{answer_at, answered_at, tries_at}
-use Rattle.listing.proofs.Listings.{rest_is, soft_line, words_most, parity_fits, lent_at}
+use Rattle.listing.proofs.Listings.{rest_is, soft_line, words_most, parity_fits, answered_at, lent_at, tries_at}
 use Rattle.listing.proofs.output.list_word.Statement.{statement}
 use Rattle.listing.proofs.output.list_word.Tie as tie
 
@@ -87,9 +87,9 @@ returns c =
     let start = c.before.before.before.before.before.before.before.parity in
     let put = c.before.before.before.word.ensures in
     let lent = lent_at bs h ok a.w l s.requires.0.2 d.auto.1.1.1.0 d.ensures.1 in
-    let answer = d.ensures.0 ∙ (answered_at bs h ok.reading a.w l a.codeword.now s.requires.0.2.long).0 in
+    let answer = d.ensures.0 ∙ (answered_at bs h ok a.w l a.codeword.now s.requires.0.2.long).0 in
     let behind = rest_is word start.result ∙ ap (λ (n : ℕ). drop n word) start.ensures in
-    let few = few_more a.w k s.requires.0.3 (mark_byte x.mark) x.tries (tries_at bs h ok.reading a.w l) in
+    let few = few_more a.w k s.requires.0.3 (mark_byte x.mark) x.tries (tries_at bs h ok a.w l) in
     let told = c.counted.ensures ∙ counts k _ word x answer
     ∙ few_capped (a.w + 1) (counted_of k (mark_byte x.mark) x.tries) few (omega (arith, l, words_most bs h ok)) in (
       record {
