@@ -16,7 +16,7 @@ use refusal::{Named, Refusal};
 mod division;
 
 // The encoder's answer: a refusal, or that the codeword is written.
-#[derive(Drop)]
+#[derive(Clone, Copy)]
 pub enum Encoded {
     Refused(Refusal),
     Written,

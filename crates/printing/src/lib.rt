@@ -25,7 +25,7 @@ mod pages;
 mod put;
 
 // The answer to how long a strip is: a refusal, or its bytes.
-#[derive(Drop)]
+#[derive(Clone, Copy)]
 pub enum Length {
     Refused(Refusal),
     Bytes(usize),

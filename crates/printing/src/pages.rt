@@ -17,7 +17,7 @@ use receiver::{Soft, Totals, counted};
 use takes::{Header, decode_word};
 
 // Where the next line is put, and the totals of the words so far.
-#[derive(Drop)]
+#[derive(Clone, Copy)]
 pub struct Progress {
     pub at: usize,
     pub totals: Totals,

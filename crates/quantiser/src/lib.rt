@@ -25,7 +25,7 @@ mod samples;
 // A ladder's fifteen edges. The fields are private, and only `make_ladder` makes one. (Fields and not an array, which no enum may hold, not
 // even inside a struct; and what `make_ladder` answers is an enum. A function `ladder` would differ from the struct only in case, which is
 // refused.)
-#[derive(Drop)]
+#[derive(Clone, Copy)]
 pub struct Ladder {
     e1: f32,
     e2: f32,
@@ -45,7 +45,7 @@ pub struct Ladder {
 }
 
 // A refusal, or a ladder.
-#[derive(Drop)]
+#[derive(Clone, Copy)]
 pub enum Made {
     Refused(Refusal),
     Accepted(Ladder),
@@ -88,7 +88,7 @@ pub fn make_ladder(edges: &[f32]) -> Made
 }
 
 // A sample: nothing was received, or this level.
-#[derive(Drop)]
+#[derive(Clone, Copy)]
 pub enum Sample {
     Blank,
     Heard(f32),

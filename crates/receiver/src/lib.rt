@@ -46,7 +46,7 @@ mod test_words;
 mod weighing;
 
 // Which answer of the hard stage it is: a refusal, a word that is lost, or a codeword found.
-#[derive(Drop)]
+#[derive(Clone, Copy)]
 pub enum HardCase {
     Refused(Refusal),
     Lost,
@@ -55,7 +55,7 @@ pub enum HardCase {
 
 // The hard stage's answer: its case, and the flipped positions: their number, and three places in which they rise and unused ones are 0.
 // (A refusal and a lost word have none. The case stands beside the array, since an enum can't hold one.)
-#[derive(Drop)]
+#[derive(Clone, Copy)]
 pub struct Hard {
     pub case: HardCase,
     pub count: usize,
@@ -80,7 +80,7 @@ pub fn decode_hard(m: usize, t: usize, n: usize, bits: &[u8], codeword: &mut [u8
 // The soft stage's answer: a refusal; a word that is lost; or a codeword, the best of those found (fair) or one that no codeword
 // of the whole code is nearer than (sure). Distance is L, margin A - L, flips q, place the test word j that gave it, and tries the
 // hard decodings made.
-#[derive(Drop)]
+#[derive(Clone, Copy)]
 pub enum Soft {
     Refused(Refusal),
     Lost {
@@ -122,7 +122,7 @@ pub fn decode_soft(
 }
 
 // What the words of a call add up to: how many there are, how many have each mark, and the tries of all.
-#[derive(Drop)]
+#[derive(Clone, Copy)]
 pub struct Totals {
     pub words: usize,
     pub sure: usize,
@@ -176,7 +176,7 @@ pub fn counted(totals: Totals, answer: Soft) -> Totals
 }
 
 // The answer to several words: a refusal, or their totals.
-#[derive(Drop)]
+#[derive(Clone, Copy)]
 pub enum Words {
     Refused(Refusal),
     Decoded(Totals),

@@ -27,7 +27,7 @@ use crate::{tables, test_words};
 use refusal::Code;
 
 // The positions to flip, where they are found: their number, and three places in which they rise and unused ones are 0.
-#[derive(Drop)]
+#[derive(Clone, Copy)]
 pub struct Flips {
     pub found: bool,
     pub count: usize,
@@ -267,7 +267,7 @@ pub fn few(c: Code, tables: &[u32], s: u32) -> Flips
 }
 
 // How many tries are made, and what the last of them located.
-#[derive(Drop)]
+#[derive(Clone, Copy)]
 pub struct Spot {
     pub tries: usize,
     pub flips: Flips,

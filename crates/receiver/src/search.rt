@@ -17,7 +17,7 @@ use ranking::Keys;
 use refusal::Code;
 
 // A candidate by its numbers: q, L and A, the test word that gave it and where that is flipped. Where nothing is found it is none.
-#[derive(Drop)]
+#[derive(Clone, Copy)]
 pub struct Pick {
     pub q: u32,
     pub sum: u32,
@@ -27,7 +27,7 @@ pub struct Pick {
 }
 
 // How far the search is: whether it is ended by a sure candidate, the hard decodings made, and the best candidate.
-#[derive(Drop)]
+#[derive(Clone, Copy)]
 pub struct Outcome {
     pub sure: bool,
     pub tries: usize,

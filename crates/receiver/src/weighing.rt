@@ -62,7 +62,7 @@ fn flipped(s: &[u8], keys: Keys, p: usize, j: usize, x: usize, z: u32) -> bool
 }
 
 // The flips q and the distance L of a candidate.
-#[derive(Drop)]
+#[derive(Clone, Copy)]
 pub struct Weight {
     pub q: u32,
     pub sum: u32,

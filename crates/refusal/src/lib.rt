@@ -6,6 +6,7 @@
 // refuse. A call hands over its buffer's length, and not the buffer: a check can't write to it. What another crate can call here has no
 // `requires`.
 #![tactic(auto)]
+
 ghost use Rattle.std.specs.Prelude.{◌≡◌, ◌*◌, ◌≤◌, ◌^◌, drop};
 ghost use Rattle.std.proofs.Common.{inl};
 ghost use Rattle.galois.specs.Field.{poly};
@@ -46,14 +47,14 @@ pub const REFUSED_TAKE_ZERO: usize = 13;
 pub const REFUSED_TAKE_LENGTH: usize = 14;
 
 // A refusal: the number of its cause, and the place of what is refused.
-#[derive(Drop)]
+#[derive(Clone, Copy)]
 pub struct Refusal {
     pub number: usize,
     pub place: usize,
 }
 
 // What a check answers.
-#[derive(Drop)]
+#[derive(Clone, Copy)]
 pub enum Check {
     Refused(Refusal),
     Passed,
@@ -73,7 +74,7 @@ pub fn refuse(number: usize, place: usize) -> Check
 // else. (The fields are public, since private functions of other crates take the record. One that is made by hand is of no use but to be
 // asked for these numbers, since every public call takes m, t and n; `Made`, which says of a record that it is a code's, is asked for by
 // private functions alone.)
-#[derive(Drop)]
+#[derive(Clone, Copy)]
 pub struct Code {
     pub m: usize,
     pub t: usize,
@@ -114,7 +115,7 @@ impl Code {
 }
 
 // What settings name: a code, where they are not refused.
-#[derive(Drop)]
+#[derive(Clone, Copy)]
 pub enum Named {
     Refused(Refusal),
     Code(Code),

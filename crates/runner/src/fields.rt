@@ -100,7 +100,7 @@ pub fn number(line: &[u8], index: usize) -> usize {
 }
 
 // The numbers that name a code.
-#[derive(Drop)]
+#[derive(Clone, Copy)]
 pub struct Setting {
     pub m: usize,
     pub t: usize,

@@ -8,7 +8,7 @@ use receiver::Totals;
 const FILLS: usize = 1000000;
 
 // How far the input was gone through, and the totals of the soft records so far.
-#[derive(Drop)]
+#[derive(Clone, Copy)]
 struct Progress {
     at: usize,
     totals: Totals,

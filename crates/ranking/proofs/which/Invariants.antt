@@ -1,0 +1,14 @@
+-- The bits are those of the marks passed, from the last down. Assumes nothing.
+use Prim.Native.Nat.{ℕ, ◌+◌, ◌-◌, ◌*◌, ◌≤◌, ◌<◌}
+use mathlib.Core.Path.{◌≡◌, refl, ap, ◌∙◌}
+use native.Mathlib.Omega.{arith}
+use lib.ListN.{drop, length}
+use Rattle.ranking.specs.Levels.{marks, bits_of}
+use Rattle.ranking.proofs.Marking.{bits_from, bits_before, bits_none}
+use Rattle.ranking.proofs.which.Given as goal
+
+abbrev pub invariant-loop-i : goal.invariant-loop-i
+invariant-loop-i l = (l.i ≤ length l.s) × (l.bits < 65536) × (l.bits ≡ bits_of (drop l.i (marks l.z l.s)))
+
+abbrev pub decreases-loop-i : goal.decreases-loop-i
+decreases-loop-i l = l.i
