@@ -1,0 +1,34 @@
+-- The register and then the message are written, as the encoded message has them. Assumes nothing.
+use Prim.Native.Nat.{ℕ, ◌*◌}
+use native.Mathlib.Nat.{mul-le-mul}
+use native.Mathlib.Omega.{arith}
+use mathlib.Core.Path.{ap, ◌∙◌}
+use mathlib.Core.List.{List, ◌++◌}
+use lib.ListN.{take, drop}
+use Rattle.bch.proofs.codes.Settings.{lawful}
+use Rattle.bch.proofs.encoding.GeneratorLaws.{suits_all}
+use Rattle.bch.proofs.encoding.EncodeLaws.{encoded_written}
+use Rattle.refusal.specs.Named.{code_of}
+use Rattle.encoder.proofs.division.write.Goals as goal
+
+pub parity-register-requires : goal.parity-register-requires
+parity-register-requires c =
+    let a = c.args.c in
+    let ok = c.requires.is_code in (
+      omega (arith, mul-le-mul ok.m_most ok.t_most),
+      rw c.generator_of.ensures (suits_all a.m a.t ok.m_least (omega arith) ok.t_least ok.t_most).degree,
+      c.requires.are_bits,
+    )
+
+pub returns : goal.returns
+returns c =
+    let a = c.args in
+    let m = a.c.m in
+    let t = a.c.t in
+    let ok = c.requires.is_code in
+    let rest = drop (m * t) a.codeword.now in
+    c.write_message.ensures
+    ∙ ap (λ (xs : List ℕ). take (m * t) xs ++ a.message.now) c.write_parity.ensures
+    ∙ encoded_written (code_of a.c) (lawful _ ok) (omega arith) a.message.now rest _ _ c.requires.are_bits c.requires.long
+    c.generator_of.ensures
+    c.parity-register.ensures

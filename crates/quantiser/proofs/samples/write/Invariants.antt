@@ -1,0 +1,17 @@
+-- The symbols are written one after the other. Assumes nothing.
+use Prim.Native.Nat.{◌-◌, ◌≤◌}
+use mathlib.Core.Path.{◌≡◌, refl, ap, sym, ◌∙◌}
+use native.Mathlib.Omega.{arith}
+use lib.ListN.{length, length-set}
+use lib.Seq.{paste}
+use Rattle.bch.proofs.codes.Copies.{copied_more, copied_end}
+use Rattle.take_format.specs.Samples.{quantised, symbol as Samples·symbol}
+use Rattle.take_format.proofs.quantisation.SampleLaws.{length_quantised}
+use Rattle.take_format.proofs.quantisation.SampleSteps.{quantised_at}
+use Rattle.quantiser.proofs.samples.write.Given as goal
+
+abbrev pub invariant-loop-i : goal.invariant-loop-i
+invariant-loop-i l = (l.i ≤ length l.kinds) × (length l.symbols ≡ length l.initial.symbols) × (l.symbols ≡ paste l.initial.symbols 0 (quantised l.edges l.kinds l.levels) l.i)
+
+abbrev pub decreases-loop-i : goal.decreases-loop-i
+decreases-loop-i l = length l.kinds - l.i
