@@ -2,13 +2,13 @@
 use Prim.Native.Nat.{ℕ, ◌-◌, ◌≤◌}
 use native.Mathlib.Omega.{arith}
 use mathlib.Core.Path.{◌≡◌, refl, ap, sym, ◌∙◌}
-use mathlib.Core.Logic.{⊎_elim}
 use mathlib.Core.List.{◌++◌}
 use lib.ListN.{length, take, drop, length-set}
 use Rattle.ranking.specs.Weakest.{padded}
 use Rattle.ranking.specs.Levels.{level_keys, to_come, Sound}
 use Rattle.ranking.proofs.Cursors.{start_sound, start_come, next_put, low_put, high_put, all_taken}
 use Rattle.ranking.proofs.first_keys.Goals as goal
+use Rattle.ranking.proofs.first_keys.Goals.{then-k-lt6, else-k-lt6}
 
 pub loop-k-init : goal.loop-k-init
 unfolding padded
@@ -52,24 +52,24 @@ loop-k-preserved c =
     let ss = c.args.s.now in
     let come = sym l.invariant.5 ∙ sym c.ready-c.ensures.1 ∙ d.ensures.taken ss in
     let next = next_put l.k (d.result.key - 1) (l.at ++ l.more) (level_keys 16 0 ss) (to_come d.result ss) (omega arith) l.invariant.4 come in
-    ⊎_elim
-    (λ w. rw (w.2, w.3) (
+    elim c.if-k-lt6.branch [
+      then-k-lt6 w ↦ rw (w.at-is, w.more-is) (
       omega arith,
       d.ensures.sound,
       simp length-set l.invariant.2,
       l.invariant.3,
-      low_put l.k (d.result.key - 1) l.at l.more w.0.taken l.invariant.2 ∙ next.0,
+      low_put l.k (d.result.key - 1) l.at l.more w.if-k-lt6.true l.invariant.2 ∙ next.0,
       sym next.1,
-    ))
-    (λ w. rw (w.2, w.3) (
+    )
+    | else-k-lt6 w ↦ rw (w.at-is, w.more-is) (
       omega arith,
       d.ensures.sound,
       l.invariant.2,
       simp length-set l.invariant.3,
-      high_put l.k (d.result.key - 1) l.at l.more (omega (arith, w.0.left)) l.invariant.2 ∙ next.0,
+      high_put l.k (d.result.key - 1) l.at l.more (omega (arith, w.if-k-lt6.false)) l.invariant.2 ∙ next.0,
       sym next.1,
-    ))
-    c.if-k-lt6.branch
+    )
+    ]
 
 pub returns : goal.returns
 returns c =

@@ -12,9 +12,9 @@ slice_bounds-least_above-end c = sym (length-take-le _ _ (omega arith))
 
 pub returns : goal.returns
 returns c =
-    let a = c.before.before.before.before.before.before.before.args ?PLACE in
+    let a = c.args in
     let ss = a.s.now in
     let y = c.least_above-first in
     let x = c.least_above-2 in
     next_parts a.z y.result x.result c.lower.result (length ss - length ss % 16) (length ss - 16) (length ss - (length ss - 16)) ss
-    y.ensures x.ensures c.lower.ensures (omega arith) (omega arith) (omega (arith, c.if1.false))
+    y.ensures x.ensures c.lower.ensures (omega arith) (omega arith) (omega (arith, c.if-n-lt16.false))

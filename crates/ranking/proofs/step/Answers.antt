@@ -5,24 +5,27 @@ use native.Mathlib.Omega.{arith}
 use Rattle.ranking.proofs.Cursors.{zeros_few, stepped}
 use Rattle.ranking.proofs.step.Goals as goal
 
--- ?? few : (c : tie.After-zeros-below) → c.zeros-below.result < 16
--- ?? few c = zeros_few c.before.args.c c.before.requires.0 c.before.requires.1 c.zeros-below.result c.zeros-below.ensures
-
 pub overflow_shr-result : goal.overflow_shr-result
-overflow_shr-result c = omega (arith, few c)
+overflow_shr-result c =
+    let few : c.zeros_below-zeros.result < 16 = zeros_few c.args.c c.requires.0 c.requires.1 c.zeros_below-zeros.result c.zeros_below-zeros.ensures in
+    omega (arith, few)
 
 pub overflow_cast-result : goal.overflow_cast-result
-overflow_cast-result c = omega (arith, few c)
+overflow_cast-result c =
+    let few : c.zeros_below-zeros.result < 16 = zeros_few c.args.c c.requires.0 c.requires.1 c.zeros_below-zeros.result c.zeros_below-zeros.ensures in
+    omega (arith, few)
 
 pub overflow_add-result : goal.overflow_add-result
 overflow_add-result c =
+    let few : c.zeros_below-zeros.result < 16 = zeros_few c.args.c c.requires.0 c.requires.1 c.zeros_below-zeros.result c.zeros_below-zeros.ensures in
     let s = c.requires.0 in
-    omega (arith, few c.before ?PLACE, s.level, s.near, s.begun)
+    omega (arith, few, s.level, s.near, s.begun)
 
 pub overflow_add-result-2 : goal.overflow_add-result-2
 overflow_add-result-2 c =
+    let few : c.zeros_below-zeros.result < 16 = zeros_few c.args.c c.requires.0 c.requires.1 c.zeros_below-zeros.result c.zeros_below-zeros.ensures in
     let s = c.requires.0 in
-    omega (arith, few c.before ?PLACE, s.level, s.near, s.begun)
+    omega (arith, few, s.level, s.near, s.begun)
 
 pub returns : goal.returns
 returns c =

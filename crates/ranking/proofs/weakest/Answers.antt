@@ -6,22 +6,21 @@ use Rattle.ranking.proofs.weakest.Goals as goal
 
 pub slice_bounds-first_keys-end : goal.slice_bounds-first_keys-end
 slice_bounds-first_keys-end c =
-    let ss = c.before.before.before.before.args.symbols.now ?PLACE in
-    let n = c.least2 in
+    let ss = c.args.symbols.now in
+    let n = c.least-n in
     omega (arith, n.ensures, length-take n.result ss)
 
 pub first_keys-requires : goal.first_keys-requires
 first_keys-requires c =
-    let s = c.before.before.before.before ?PLACE in
-    let ss = s.args.symbols.now in
-    let n = c.least2 in
-    (omega (arith, n.ensures, length-take n.result ss), omega (arith, c.least.ensures))
+    let ss = c.args.symbols.now in
+    let n = c.least-n in
+    (omega (arith, n.ensures, length-take n.result ss), omega (arith, c.least-size.ensures))
 
 pub returns : goal.returns
 returns c =
-    let s = c.before.before.before.before.before ?PLACE in
-    let size = c.least in
-    let n = c.least2 in
+    let size = c.least-size in
+    let n = c.least-n in
     let k = c.first_keys in
-    first_weakest s.args.count size.result n.result s.args.symbols.now k.result.at k.result.more size.ensures n.ensures
-    k.ensures.1 k.ensures.0
+    record { at_value = (first_weakest c.args.count size.result n.result c.args.symbols.now k.result.at k.result.more size.ensures n.ensures
+    k.ensures.1 k.ensures.0).0; more_value = (first_weakest c.args.count size.result n.result c.args.symbols.now k.result.at k.result.more size.ensures n.ensures
+    k.ensures.1 k.ensures.0).1 }
