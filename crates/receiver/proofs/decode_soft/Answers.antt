@@ -1,0 +1,55 @@
+-- The check's refusal, or the soft stage's answer. Assumes nothing.
+use Prim.Native.Nat.{◌≤◌}
+use mathlib.Core.Path.{◌≡◌, ap, sym, ◌∙◌, subst}
+use mathlib.Core.Logic.{inr}
+use lib.ListN.{length}
+use Rattle.bch.specs.Code.{code}
+use Rattle.chase.specs.Soft.{soft_stage, soft_written}
+use Rattle.chase.specs.Word.{Symbols}
+use Rattle.take_format.specs.Refusal.{soft_refusal}
+use Rattle.take_format.specs.Calls.{soft_answer, soft_buffer}
+use Rattle.take_format.proofs.checks.RefusalLaws.{soft_accepted}
+use Rattle.take_format.proofs.checks.CallLaws.{answered_some, answered_none, buffer_some, buffer_none}
+use Rattle.refusal.specs.Named.{named_of, code_of, Made}
+use Rattle.refusal.specs.declared.Code as struct
+use Rattle.refusal.proofs.Laws.{named_code, named_refused, made}
+use Rattle.receiver.specs.Answer.{soft_of}
+use Rattle.receiver.proofs.decode_soft.Goals as goal
+
+pub decode-requires : goal.decode-requires
+unfolding soft_refusal
+decode-requires c =
+    let a = c.args in
+    let w = code a.m a.t a.n in
+    let p = a.depth in
+    let ss = a.symbols.now in
+    let old = a.codeword.now in
+    let (ok, e) = named_code c.in-Code.c (soft_refusal w p ss old) w (sym (ap named_of c.in-Code.is) ∙ c.of_symbols.ensures) in
+    let h = soft_accepted w p ss old ok in
+    subst (λ (k : struct.Code). Made k × (p ≤ 6) × (length ss ≡ k.n) × (length old ≡ k.n) × Symbols ss) (sym e)
+    (made a.m a.t a.n h.is_code, h.depth, h.long, h.room, h.are_symbols)
+
+pub returns-in-Refused : goal.returns-in-Refused
+unfolding soft_refusal soft_of soft_answer soft_buffer
+returns-in-Refused c =
+    let a = c.args in
+    let w = code a.m a.t a.n in
+    let old = a.codeword.now in
+    let refused = named_refused c.in-Refused.r (soft_refusal w a.depth a.symbols.now old) _
+    (sym (ap named_of c.in-Refused.is) ∙ c.of_symbols.ensures) in
+    let r = soft_stage w a.depth a.symbols.now in
+    record { codeword_after = answered_some _ _ r refused; codeword_after_2 = buffer_some _ _ old (soft_written r old) refused }
+
+pub returns-in-Code : goal.returns-in-Code
+unfolding soft_refusal soft_answer soft_buffer
+returns-in-Code c =
+    let a = c.args in
+    let w = code a.m a.t a.n in
+    let p = a.depth in
+    let ss = a.symbols.now in
+    let old = a.codeword.now in
+    let (ok, e) = named_code c.in-Code.c (soft_refusal w p ss old) w
+    (sym (ap named_of c.in-Code.is) ∙ c.of_symbols.ensures) in
+    let r = soft_stage w p ss in
+    let d = c.decode.ensures.?whole in
+    record { codeword_after = d.0 ∙ ap (λ (k : struct.Code). inr (soft_stage (code_of k) p ss)) e ∙ answered_none _ r ok; codeword_after_2 = d.1 ∙ ap (λ (k : struct.Code). soft_written (soft_stage (code_of k) p ss) old) e ∙ buffer_none _ old (soft_written r old) ok }

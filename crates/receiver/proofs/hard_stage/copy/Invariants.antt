@@ -1,0 +1,14 @@
+-- The bits so far are copied. Assumes nothing.
+use Prim.Native.Nat.{◌-◌, ◌≤◌}
+use native.Mathlib.Omega.{arith}
+use mathlib.Core.Path.{◌≡◌, refl}
+use lib.ListN.{length, length-set}
+use lib.Seq.{paste}
+use Rattle.bch.proofs.codes.Copies.{copied_more, copied_end}
+use Rattle.receiver.proofs.hard_stage.copy.Given as goal
+
+abbrev pub invariant-loop-i : goal.invariant-loop-i
+invariant-loop-i l = (l.i ≤ length l.bits) × (length l.out ≡ length l.initial.out) × (l.out ≡ paste l.initial.out 0 l.bits l.i)
+
+abbrev pub decreases-loop-i : goal.decreases-loop-i
+decreases-loop-i l = length l.bits - l.i

@@ -1,0 +1,136 @@
+-- k, its two roots and the scale as the logarithms say; each sum of exponents is below eight periods. Assumes nothing.
+-- ---- sums of exponents, for a period p and logarithms d and e below it
+use Prim.Native.Nat.{ℕ, ◌+◌, ◌-◌, ◌*◌, ◌/◌, ◌%◌, ◌^◌, ◌≤◌, ◌<◌}
+use mathlib.Core.Path.{◌≡◌, refl, ap, sym, subst}
+use native.Mathlib.Omega.{arith}
+use mir.Syntax.{w64}
+use mir.Val.{Fits}
+use Rattle.bch.proofs.logarithms.LogSteps.{kappa_lost, kappa_found}
+use Rattle.bch.proofs.logarithms.LogBounds.{power_lt, roots_lt}
+use Rattle.receiver.proofs.Places.{below_period, folded_le, low_fits}
+use Rattle.receiver.proofs.locate.by_kappa.Goals as goal
+
+-- ?? small : (s x : ℕ) → s ≤ 1024 → x < s - 1 → Fits w64 x
+-- ?? small s x most h = record { fits = omega arith }
+-- ?? 
+-- ?? -- ---- the two logarithms, and the two roots
+-- ?? 
+-- ?? module _ (o : tie.After-log-of2) where
+-- ??   d_lt : o.before.log-of.result < 2 ^ o.before.before.before.args.c.m - 1
+-- ??   d_lt = o.before.log-of.ensures.2 o.before.before.before.requires.4
+-- ?? 
+-- ??   e-lt : o.log-of2.result < 2 ^ o.before.before.before.args.c.m - 1
+-- ??   e-lt = o.log-of2.ensures.2 o.before.before.before.pre.6
+-- ?? 
+-- ?? module _ (o : tie.Else1) where
+-- ??   two-lt : (o.before.roots_of.result % 1024 < 2 ^ o.before.before.before.before.before.before.before.args.c.m - 1)
+-- ??       × (o.before.roots_of.result / 1024 < 2 ^ o.before.before.before.before.before.before.before.args.c.m - 1)
+-- ??   two-lt =
+-- ??       let s = o.before.before.before.before.before.before.before in
+-- ??       let a = s.args in
+-- ??       roots_lt a.c.m a.c.t a.tables.now s.requires.0.tables s.requires.1 _ _ o.before.before.fold.ensures.1
+-- ??       o.before.roots_of.ensures o.if1.false
+
+pub log_of-ld-requires : goal.log_of-ld-requires
+log_of-ld-requires c = (c.requires.0.fielded, c.requires.3)
+
+pub log_of-le-requires : goal.log_of-le-requires
+log_of-le-requires c = (c.requires.0.fielded, c.requires.5)
+
+pub overflow_mul-le : goal.overflow_mul-le
+overflow_mul-le c =
+    let o = c in
+    let s = o.before.before.before in
+    cube-fits _ _ _ _ s.requires.0.tables.size_most s.requires.0.fielded.made.is_period (d_lt o) (e-lt o)
+
+pub overflow_sub-c : goal.overflow_sub-c
+overflow_sub-c c = below_period _ _ _ c.requires.0.fielded.made.is_period (d_lt o)
+
+pub overflow_mul-c : goal.overflow_mul-c
+overflow_mul-c c = fifth-fits _ _ _ _ c.requires.0.tables.size_most c.requires.0.fielded.made.is_period (d_lt o) (e-lt o)
+
+pub overflow_add-le : goal.overflow_add-le
+overflow_add-le c = kappa-fits _ _ _ _ c.requires.0.tables.size_most c.requires.0.fielded.made.is_period (d_lt o) (e-lt o)
+
+pub fold-k-requires : goal.fold-k-requires
+fold-k-requires c =
+    let k = c.requires.0.fielded.made in
+    (k, kappa-lt _ _ _ _ k.size_most k.is_period (d_lt o) (e-lt o))
+
+pub roots_of-r-requires : goal.roots_of-r-requires
+roots_of-r-requires c = (c.requires.0, c.fold-k.ensures.1)
+
+pub returns-then-r-lt1024 : goal.returns-then-r-lt1024
+returns-then-r-lt1024 c =
+    let a = c.args in
+    let e = c.lost.ensures in
+    let q =
+    kappa_lost a.c.m a.c.n a.tables.now a.s1 a.d2 a.e a.c.period _ _ _ _ c.requires.0.fielded.made.is_period
+    c.log_of-ld.ensures.0 c.log_of-le.ensures.0 c.fold-k.ensures.0 c.roots_of-r.ensures
+    c.if-r-lt1024.true e.0 in
+    (q, e.1, e.2)
+
+pub overflow_mul-scale : goal.overflow_mul-scale
+overflow_mul-scale c = square-fits _ _ _ _ c.requires.0.tables.size_most c.requires.0.fielded.made.is_period (d_lt o) (e-lt o)
+
+pub overflow_sub-scale : goal.overflow_sub-scale
+overflow_sub-scale c = below_period _ _ _ c.requires.0.fielded.made.is_period (e-lt o)
+
+pub overflow_add-scale : goal.overflow_add-scale
+overflow_add-scale c = scale-fits _ _ _ _ c.requires.0.tables.size_most c.requires.0.fielded.made.is_period (d_lt o) (e-lt o)
+
+pub overflow_cast-r : goal.overflow_cast-r
+overflow_cast-r c = small _ _ c.requires.0.tables.size_most (two-lt c.before ?PLACE).0
+
+pub overflow_add-scale-2 : goal.overflow_add-scale-2
+overflow_add-scale-2 c = root_fits _ _ _ _ c.requires.0.tables.size_most c.requires.0.fielded.made.is_period (d_lt o) (e-lt o) _ (two-lt c.before ?PLACE).0
+
+pub fold-x-requires : goal.fold-x-requires
+fold-x-requires c =
+    let k = c.requires.0.fielded.made in
+    (k, root-lt _ _ _ _ k.size_most k.is_period (d_lt o) (e-lt o) _ (two-lt c.before ?PLACE).0)
+
+pub overflow_cast-r-2 : goal.overflow_cast-r-2
+overflow_cast-r-2 c = small _ _ c.requires.0.tables.size_most (two-lt c.before.before ?PLACE).1
+
+pub overflow_add-scale-3 : goal.overflow_add-scale-3
+overflow_add-scale-3 c = root_fits _ _ _ _ c.requires.0.tables.size_most c.requires.0.fielded.made.is_period (d_lt o) (e-lt o) _ (two-lt c.before.before ?PLACE).1
+
+pub fold-y-requires : goal.fold-y-requires
+fold-y-requires c =
+    let k = c.requires.0.fielded.made in
+    (k, root-lt _ _ _ _ k.size_most k.is_period (d_lt o) (e-lt o) _ (two-lt c.before.before ?PLACE).1)
+
+pub powers_of-y1-requires : goal.powers_of-y1-requires
+powers_of-y1-requires c = (c.requires.0.fielded, folded_le _ _ c.fold-x.ensures.1)
+
+pub powers_of-y2-requires : goal.powers_of-y2-requires
+powers_of-y2-requires c = (c.requires.0.fielded, folded_le _ _ c.fold-y.ensures.1)
+
+pub overflow_cast-y1 : goal.overflow_cast-y1
+overflow_cast-y1 c = low_fits _
+
+pub overflow_cast-y2 : goal.overflow_cast-y2
+overflow_cast-y2 c = low_fits _
+
+pub trio-requires : goal.trio-requires
+trio-requires c =
+    let a = c.args in
+    let lt = power_lt a.c.m a.c.t a.tables.now c.requires.0.tables in
+    let in_field : ℕ → Type 0 = λ v. v % 1024 < 2 ^ a.c.m in (
+      c.requires.0,
+      c.requires.2,
+      subst in_field (sym c.powers_of-y1.ensures) (lt _ c.fold-x.ensures.1),
+      subst in_field (sym c.powers_of-y2.ensures) (lt _ c.fold-y.ensures.1),
+    )
+
+pub returns : goal.returns
+returns c =
+    let a = c.args in
+    let e = c.trio.ensures in
+    let q =
+    kappa_found a.c.m a.c.n a.tables.now a.s1 a.d2 a.e a.c.period _ _ _ _ c.requires.0.fielded.made.is_period
+    c.log_of-ld.ensures.0 c.log_of-le.ensures.0 c.fold-k.ensures.0 c.roots_of-r.ensures c.if-r-lt1024.false _ _ _ _ _
+    refl c.fold-x.ensures.0 c.fold-y.ensures.0
+    (ap (λ (v : ℕ). v % 1024) c.powers_of-y1.ensures) (ap (λ (v : ℕ). v % 1024) c.powers_of-y2.ensures) e.0 in
+    (q, e.1, e.2)

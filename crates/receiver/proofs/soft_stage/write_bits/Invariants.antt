@@ -1,0 +1,15 @@
+-- The bits so far are the hard bits of their symbols. Assumes nothing.
+use Prim.Native.Nat.{ℕ, ◌+◌, ◌-◌, ◌/◌, ◌≤◌}
+use native.Mathlib.Omega.{arith}
+use mathlib.Core.Path.{◌≡◌, refl}
+use borrow.Author.Count.{below_none}
+use lib.ListN.{length, get_or, length-set}
+use Rattle.chase.proofs.test_words.Doublings.{Holds, holds_more}
+use Rattle.chase.proofs.test_words.TestWords.{hard_filled}
+use Rattle.receiver.proofs.soft_stage.write_bits.Given as goal
+
+abbrev pub invariant-loop-i : goal.invariant-loop-i
+invariant-loop-i l = (l.i ≤ length l.initial.out) × (length l.out ≡ length l.initial.out) × Holds (λ (k : ℕ). get_or l.s (l.from + k) 0 / 16) l.i l.out
+
+abbrev pub decreases-loop-i : goal.decreases-loop-i
+decreases-loop-i l = length l.initial.out - l.i

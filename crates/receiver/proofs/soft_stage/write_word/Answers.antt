@@ -1,0 +1,67 @@
+-- The hard bits, flipped at the weak positions that j chooses, are test word j, and this is flipped at f. Assumes nothing.
+use Prim.Native.Nat.{ℕ, ◌+◌, ◌≤◌}
+use native.Mathlib.Omega.{arith}
+use mathlib.Core.Path.{◌≡◌, ap, sym, ◌∙◌}
+use mathlib.Core.List.{List}
+use lib.ListN.{length, drop, length-drop}
+use Rattle.bch.specs.Words.{Bits, flipped_at}
+use Rattle.bch.proofs.codes.Behind.{flipped_from, drop_flipped, length_flipped_from, bits_flipped_from}
+use Rattle.bch.proofs.codes.Entries.{below_drop}
+use Rattle.chase.specs.Soft.{hard_bits, test_word}
+use Rattle.chase.specs.Word.{test, Symbols}
+use Rattle.chase.proofs.test_words.Reach.{bits_hard, length_hard}
+use Rattle.chase.proofs.test_words.TestWords.{chosen, test_flipped}
+use Rattle.chase.proofs.search.Ready.{places_of, places_weak, weak_distinct}
+use Rattle.receiver.specs.Located.{flips_of}
+use Rattle.receiver.proofs.soft_stage.write_word.Goals as goal
+
+pub write_bits-requires : goal.write_bits-requires
+write_bits-requires c =
+    search rules
+
+-- the bits that are written first, of a word with from and after it as many as it has
+module _ (ss : List ℕ) (from : ℕ) (ys : List ℕ) (e : ys ≡ drop from (hard_bits ss)) where
+  as_long : from ≤ length ss → from + length ys ≡ length ss
+  as_long h = omega (arith, ap length e, length-drop from (hard_bits ss), length_hard ss)
+
+  are_bits : Symbols ss → Bits ys
+  are_bits h = rw e (below_drop 2 from (hard_bits ss) (bits_hard ss h))
+
+pub flip_weak-requires : goal.flip_weak-requires
+flip_weak-requires c =
+    let a = c.args in
+    let w = c.write_bits in
+    let ready = c.requires.ready in (
+      are_bits a.s.now a.from _ w.ensures ready.symbols,
+      ready.depth,
+      ready.six,
+      rw (as_long a.s.now a.from _ w.ensures (omega (arith, c.requires.out_value.0)), places_weak a.s.now a.keys.at a.p ready)
+          (weak_distinct a.s.now a.keys.at a.p ready),
+    )
+
+pub flip_at-requires : goal.flip_at-requires
+flip_at-requires c =
+    let a = c.args in
+    let w = c.write_bits in
+    let f = c.flip_weak in
+    let P = chosen a.j (places_of a.keys.at a.p) in
+    let ys = w.new.1.1.0 in
+    let long : a.from + length ys ≡ length a.s.now = as_long a.s.now a.from ys w.ensures (omega (arith, c.requires.out_value.0)) in (
+      rw f.ensures (bits_flipped_from a.from P ys (are_bits a.s.now a.from ys w.ensures c.requires.ready.symbols)),
+      rw (ap length f.ensures ∙ length_flipped_from a.from P ys, long) c.requires.out_value.1,
+    )
+
+pub returns : goal.returns
+returns c =
+    let a = c.args in
+    let w = c.write_bits in
+    let f = c.flip_weak in
+    let P = flips_of a.f in
+    let Q = chosen a.j (places_of a.keys.at a.p) in
+    let bits = hard_bits a.s.now in
+    let tested : flipped_at Q bits ≡ test a.p a.s.now a.j =
+    sym (test_flipped a.j (places_of a.keys.at a.p) bits)
+    ∙ ap (λ (ws : List ℕ). test_word a.j ws bits) (places_weak a.s.now a.keys.at a.p c.requires.ready) in
+    c.flip_at.ensures
+    ∙ ap (flipped_from a.from P) (f.ensures ∙ ap (flipped_from a.from Q) w.ensures ∙ sym (drop_flipped a.from Q bits))
+    ∙ sym (drop_flipped a.from P (flipped_at Q bits)) ∙ ap (λ (xs : List ℕ). drop a.from (flipped_at P xs)) tested

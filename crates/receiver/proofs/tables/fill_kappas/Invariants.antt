@@ -1,0 +1,74 @@
+-- Roots l below the loop's are written; e is 3 l less whole periods, so that it is the place's exponent. Assumes nothing.
+use Prim.Native.Nat.{ℕ, ◌+◌, ◌-◌, ◌*◌, ◌%◌, ◌^◌, ◌≤◌, ◌<◌}
+use mathlib.Core.Path.{◌≡◌, refl, ap, ap₂, subst, subst₂, sym, ◌∙◌}
+use mathlib.Core.Logic.{◌⊎◌, inl, inr}
+use native.Mathlib.Omega.{arith}
+use lib.ListN.{length, get_or, length-set}
+use lib.Bits.{bit_xor}
+use Rattle.galois.proofs.Primitive.{Primitive, primitive_5_10}
+use Rattle.bch.proofs.tables.CodeTables.{TrioRoots, roots_in}
+use Rattle.bch.proofs.tables.RootFills.{behind, trios_none}
+use Rattle.bch.proofs.tables.TableLoops.{FieldFilled, Turn, TurnIn, turn_first, turn_in, turn_inside, turn_more, turn_out, turn_power, trios_step, next_entry}
+use Rattle.receiver.proofs.Places.{power_at, root_at, entry_at, power_fits, power_scaled, root_fits, root_scaled, entry_scaled, step_fits}
+use Rattle.receiver.proofs.Places.{near, inside, low_scaled, low_and, falls, goes_on, wrapped, ended, fell}
+use Rattle.receiver.proofs.tables.fill_kappas.Given as goal
+
+abbrev pub invariant-loop-e : goal.invariant-loop-e
+invariant-loop-e l = {-l-}     (1 ≤ l.l)
+    × (l.l ≤ 2 ^ l.c.m - 1)
+    × (l.initial.l ≤ l.l)
+    × (l.e < 2 ^ l.c.m - 1 + 3)
+    × ((l.initial.l < l.l) ⊎ (l.e ≤ 3))
+    × (length l.tables ≡ length l.initial.tables)
+    × TurnIn (2 ^ l.c.m - 1) 3 l.l l.e
+    × FieldFilled l.c.m l.c.t l.tables
+    × TrioRoots l.c.m l.l (roots_in l.c.m l.tables)
+
+abbrev pub decreases-loop-e : goal.decreases-loop-e
+decreases-loop-e l = {-l-} 2 ^ l.c.m - 1 - l.l
+
+abbrev pub invariant-loop-l : goal.invariant-loop-l
+invariant-loop-l l = {-l-}     (1 ≤ l.l)
+    × (l.l ≤ 2 ^ l.c.m - 1)
+    × (l.e ≤ 3)
+    × (length l.tables ≡ length l.initial.tables)
+    × Turn (2 ^ l.c.m - 1) 3 l.l l.e
+    × FieldFilled l.c.m l.c.t l.tables
+    × TrioRoots l.c.m l.l (roots_in l.c.m l.tables)
+
+abbrev pub decreases-loop-l : goal.decreases-loop-l
+decreases-loop-l l = {-l-} 2 ^ l.c.m - 1 - l.l
+
+-- ---- at the inner loop's test, in the l.period: l.l is below it too, and so are the next entry's place and logarithm
+
+module _
+    (o : tie.At-loop2 invariant-loop2 decreases-loop2 invariant-loop decreases-loop)
+    (h : o.loop2.e < o.before.before.before.before.before.before.args.c.period) where
+  g : Primitive o.before.before.before.before.before.before.args.c.m
+  g = let k = o.before.before.before.before.before.before.requires.0.lawful in primitive_5_10 _ k.m_least k.m_most
+
+  e-lt : o.loop2.e < 2 ^ o.before.before.before.before.before.before.args.c.m - 1
+  e-lt = subst (λ (p : ℕ). o.loop2.e < p) o.before.before.before.before.before.before.pre.0.is_period h
+
+  l_lt : o.loop2.l < 2 ^ o.before.before.before.before.before.before.args.c.m - 1
+  l_lt = turn_inside _ 3 o.loop2.l o.loop2.e e-lt o.loop2.inv.6
+
+  l-near : o.loop2.l < 2 ^ o.before.before.before.before.before.before.args.c.m + 8
+  l-near = near _ _ l_lt
+
+  module _
+      (x : ℕ)
+      (is_x : x ≡ bit_xor (get_or o.loop2.tables (o.before.before.before.before.before.before.args.c.powers + o.loop2.l) 0 % 1024) 1) where
+    is-next : x ≡ bit_xor (get_or o.loop2.tables (2 ^ o.before.before.before.before.before.before.args.c.m + o.loop2.l) 0 % 1024) 1
+    is-next =
+        let is_powers = o.before.before.before.before.before.before.pre.0.is_powers in
+        is_x ∙ ap (λ (p : ℕ). bit_xor (get_or o.loop2.tables (p + o.loop2.l) 0 % 1024) 1) is_powers
+
+    next-lt : (x < 2 ^ o.before.before.before.before.before.before.args.c.m)
+        × (get_or o.loop2.tables x 0 < 2 ^ o.before.before.before.before.before.before.args.c.m - 1)
+    next-lt =
+        let s = o.before.before.before.before.before.before in
+        let l.l = o.loop2 in
+        let k = s.pre.0.lawful in
+        next_entry s.args.c.m g s.pre.0.size_most s.args.c.t l.l.tables l.l.inv.7 l.l.l x k.t_least k.t_most k.m_most
+        l.l.inv.0 l_lt is-next

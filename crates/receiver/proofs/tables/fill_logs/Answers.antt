@@ -1,0 +1,79 @@
+-- Below i the logarithms and the powers are written, and x is the power of i. Assumes nothing.
+use Prim.Native.Nat.{ℕ, ◌+◌, ◌-◌, ◌^◌, ◌≤◌, ◌<◌}
+use mathlib.Core.Path.{◌≡◌, refl, ap, subst, sym, ◌∙◌}
+use native.Mathlib.Omega.{arith}
+use Rattle.bch.proofs.tables.TableFills.{LogPart, logs_none, logs_more, logs_all}
+use lib.ListN.{length, length-set}
+use Rattle.galois.specs.Field.{alpha, double}
+use Rattle.galois.proofs.Primitive.{Primitive, primitive_5_10}
+use Rattle.galois.proofs.FieldTables.{alpha_next}
+use Rattle.receiver.proofs.Places.{near, inside, entry_at, power_fits, power_scaled, entry_scaled, step_fits, falls}
+use Rattle.receiver.proofs.tables.fill_logs.Goals as goal
+
+small : (s x : ℕ) → s ≤ 1024 → x < s → x < 4294967296
+small s x most h = omega arith
+
+-- ?? i_lt : (o : tie.In-loop invariant-loop decreases-loop) → o.before.loop.i < 2 ^ o.before.before.before.args.c.m - 1
+-- ?? i_lt o = subst (λ (p : ℕ). o.before.loop.i < p) o.before.before.before.requires.0.is_period o.loop-test.true
+
+pub loop-i-init : goal.loop-i-init
+unfolding alpha
+loop-i-init c = (omega arith, refl, refl, omega arith, logs_none c.args.c.m c.args.tables.now c.requires.1 c.requires.2)
+
+pub narrow-requires : goal.narrow-requires
+narrow-requires c = small _ _ c.requires.0.size_most (inside _ _ (i_lt c))
+
+pub offset_bounds-tables-x : goal.offset_bounds-tables-x
+offset_bounds-tables-x c = entry_scaled _ _ c.requires.0.size_most c.loop-i.invariant.3
+
+pub bounds-tables-x : goal.bounds-tables-x
+bounds-tables-x c = entry_at _ _ _ c.loop-i.invariant.3 c.loop-i.invariant.4.long
+
+pub narrow-requires-in-loop-i : goal.narrow-requires-in-loop-i
+narrow-requires-in-loop-i c = small _ _ c.requires.0.size_most c.loop-i.invariant.3
+
+pub overflow_add-tables : goal.overflow_add-tables
+overflow_add-tables c =
+    let k = c.requires.0 in
+    power_fits _ _ _ k.size_most k.is_powers (near _ _ (i_lt c.before.before ?PLACE))
+
+pub offset_bounds-tables-powers : goal.offset_bounds-tables-powers
+offset_bounds-tables-powers c =
+    let k = c.requires.0 in
+    power_scaled _ _ _ k.size_most k.is_powers (near _ _ (i_lt c.before.before ?PLACE))
+
+pub bounds-tables-powers : goal.bounds-tables-powers
+bounds-tables-powers c = let l = c.loop-i in omega (arith, length-set l.tables l.x c.narrow.result, l.invariant.4.long)
+
+pub twice-x-requires : goal.twice-x-requires
+twice-x-requires c =
+    let k = c.requires.0 in
+    (k.lawful.m_least, k.lawful.m_most, k.is_powers, k.is_polynomial, c.loop-i.invariant.3)
+
+pub overflow_add-i : goal.overflow_add-i
+overflow_add-i c = step_fits _ _ 1 c.requires.0.size_most (near _ _ (i_lt o)) (omega arith)
+
+pub loop-i-smaller : goal.loop-i-smaller
+loop-i-smaller c = falls _ _ (i_lt c.before.before.before ?PLACE)
+
+pub loop-i-preserved : goal.loop-i-preserved
+loop-i-preserved c =
+    let m = c.args.c.m in
+    let l = c.loop-i in
+    let g : Primitive c.args.c.m = primitive_5_10 c.args.c.m c.requires.0.lawful.m_least c.requires.0.lawful.m_most in
+    let h : l.i < 2 ^ m - 1 = omega arith in (
+      omega arith,
+      simp length-set l.invariant.1,
+      c.twice-x.ensures.0 ∙ ap (double m) l.invariant.2 ∙ sym (alpha_next m l.i),
+      c.twice-x.ensures.1,
+      logs_more m g l.i l.x _ _ _ l.tables h l.invariant.2 c.narrow.ensures (ap (λ (k : ℕ). k + l.i) c.requires.0.is_powers)
+          (c.narrow-in-loop-i.ensures ∙ l.invariant.2) l.invariant.4,
+    )
+
+pub returns : goal.returns
+returns c =
+    let m = c.args.c.m in
+    let l = c.loop-i in
+    let g : Primitive c.args.c.m = primitive_5_10 c.args.c.m c.requires.0.lawful.m_least c.requires.0.lawful.m_most in
+    let e : l.i ≡ 2 ^ m - 1 = omega arith in
+    logs_all m g _ l.tables (omega (arith, c.narrow-2.ensures)) (rw e at l.invariant.4)

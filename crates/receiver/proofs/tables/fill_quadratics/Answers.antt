@@ -1,0 +1,142 @@
+-- The entries of the even elements below w are written. Assumes nothing.
+use Prim.Native.Nat.{ℕ, ◌+◌, ◌-◌, ◌*◌, ◌%◌, ◌^◌, ◌≤◌, ◌<◌}
+use native.Mathlib.Omega.{arith}
+use mathlib.Core.Path.{◌≡◌, refl, ap, ap₂, sym, subst, subst₂, ◌∙◌}
+use mathlib.Core.Logic.{◌≢◌}
+use lib.ListN.{length, get_or, length-set}
+use Rattle.galois.proofs.Primitive.{Primitive, primitive_5_10}
+use Rattle.galois.proofs.FieldTables.{even_size}
+use Rattle.bch.proofs.tables.CodeTables.{PairRoots, roots_in, reduced}
+use Rattle.bch.proofs.tables.RootFills.{even_end, pairs_none}
+use Rattle.bch.proofs.tables.TableLoops.{FieldFilled, filled_log_lt, pairs_step}
+use mir.Syntax.{w32, w64}
+use mir.Val.{Fits}
+use Rattle.receiver.proofs.Places.{near, root_at, root_fits, root_scaled}
+use Rattle.receiver.proofs.tables.fill_quadratics.Goals as goal
+
+positive : (m : ℕ) → 5 ≤ m → 1 ≤ m
+positive m h = omega arith
+
+passes : (s w : ℕ) → w < s - 1 → s - (w + 2) < s - w
+passes s w h = omega arith
+
+least : (s : ℕ) → 32 ≤ s → 2 ≤ s
+least s h = omega arith
+
+step : (s w : ℕ) → 32 ≤ s → s % 2 ≡ 0 → w % 2 ≡ 0 → w < s - 1 → (2 ≤ w + 2) × ((w + 2) % 2 ≡ 0) × (w + 2 ≤ s)
+step s w size even e h = (omega arith, omega arith, omega arith)
+
+above : (x : ℕ) → 2 ≤ x → x ≢ 0
+above x l e = omega arith
+
+after : (w : ℕ) → 2 ≤ w → 2 ≤ w + 1
+after w l = omega arith
+
+-- ?? next-lt : (s w : ℕ) → w < s - 1 → (w < s) × (w + 1 < s)
+-- ?? next-lt s w h = (omega arith, omega arith)
+-- ?? 
+-- ?? -- ---- the logarithms of w and w + 1
+-- ?? 
+-- ?? module _ (o : tie.At-loop invariant-loop decreases-loop) (test : o.loop.w < o.before.before.before.before.args.c.period) where
+-- ??   h : o.loop.w < 2 ^ o.before.before.before.before.args.c.m - 1
+-- ??   h = subst (λ (p : ℕ). o.loop.w < p) o.before.before.before.before.requires.0.is_period test
+-- ?? 
+-- ??   g : Primitive o.before.before.before.before.args.c.m
+-- ??   g = let k = o.before.before.before.before.pre.0.lawful in primitive_5_10 o.before.before.before.before.args.c.m k.m_least k.m_most
+-- ?? 
+-- ??   log_lt : (x : ℕ) → 2 ≤ x → x < 2 ^ o.before.before.before.before.args.c.m
+-- ??       → get_or o.loop.tables x 0 < 2 ^ o.before.before.before.before.args.c.m - 1
+-- ??   log_lt x l u =
+-- ??       let s = o.before.before.before.before in
+-- ??       filled_log_lt s.args.c.m g s.pre.0.size_most s.args.c.t o.loop.tables o.loop.inv.4 x (above x l) u
+-- ?? 
+-- ??   first_lt : get_or o.loop.tables o.loop.w 0 < 2 ^ o.before.before.before.before.args.c.m - 1
+-- ??   first_lt = log_lt o.loop.w o.loop.inv.0 (next-lt _ _ h).0
+-- ?? 
+-- ??   second_lt : get_or o.loop.tables (o.loop.w + 1) 0 < 2 ^ o.before.before.before.before.args.c.m - 1
+-- ??   second_lt = log_lt (o.loop.w + 1) (after _ o.loop.inv.0) (next-lt _ _ h).1
+-- ?? 
+-- ?? -- their sum, reduced
+
+-- ?? sum_lt : (c : tie.After-reduced invariant-loop decreases-loop)
+-- ??     → c.reduced.result < 2 ^ c.before.before.before.before.before.before.before.before.before.before.args.c.m - 1
+-- ?? sum_lt c =
+-- ??     let o = c.before.before.before.before.before.before in
+-- ??     let k = o.before.before.before.before.requires.0 in
+-- ??     let h = c.before.before.before.before.before.loop-test.true in
+-- ??     let lt = both-lt _ _ _ k.size_most (first_lt o h) (second_lt o h) _ k.is_period in
+-- ??     let sum = subst₂ (λ (a b : ℕ). a + b < 2 * o.before.before.before.before.args.c.period) (sym c.before.before.wide.ensures)
+-- ??     (sym c.before.wide2.ensures) lt in
+-- ??     subst (λ (p : ℕ). c.reduced.result < p) k.is_period (c.reduced.ensures.1 sum)
+
+pub returns-then-c-ne2 : goal.returns-then-c-ne2
+returns-then-c-ne2 c = record { field = c.requires.1; pairs = λ z. absurd (c.if-c-ne2.true z); none = λ n. c.requires.2 }
+
+pub loop-w-init : goal.loop-w-init
+loop-w-init c = (omega arith, refl, least _ c.requires.0.size_least, refl, c.requires.1, pairs_none c.args.c.m _ (λ k l. c.requires.2 k))
+
+pub overflow_add-wide : goal.overflow_add-wide
+overflow_add-wide c =
+    let k = c.requires.0 in
+    let h = c.loop-w-test.true in
+    let fits = both-fit _ _ _ k.size_most (first_lt o h) (second_lt o h) in
+    subst₂ (λ (a b : ℕ). Fits w64 (a + b)) (sym c.wide.ensures) (sym c.wide-in-loop-w.ensures) fits
+
+pub overflow_mul-tables : goal.overflow_mul-tables
+overflow_mul-tables c =
+    let k = c.requires.0 in
+    let h = c.loop-w-test.true in
+    high_fits _ _ _ k.size_most (first_lt o h) (second_lt o h)
+
+pub overflow_add-tables : goal.overflow_add-tables
+overflow_add-tables c =
+    let k = c.requires.0 in
+    let h = c.loop-w-test.true in
+    packed-fits _ _ _ k.size_most (first_lt o h) (second_lt o h)
+
+pub overflow_add-tables-in-loop-w : goal.overflow_add-tables-in-loop-w
+overflow_add-tables-in-loop-w c =
+    let k = c.requires.0 in
+    root_fits _ _ _ k.size_most k.is_roots (near _ _ (sum_lt c.before ?PLACE))
+
+pub offset_bounds-tables-c : goal.offset_bounds-tables-c
+offset_bounds-tables-c c =
+    let k = c.requires.0 in
+    root_scaled _ _ _ k.size_most k.is_roots (near _ _ (sum_lt c.before ?PLACE))
+
+pub bounds-tables-c : goal.bounds-tables-c
+bounds-tables-c c = root_at _ _ _ _ c.requires.0.is_roots (sum_lt c.before ?PLACE) c.loop-w.invariant.4.long
+
+pub loop-w-smaller : goal.loop-w-smaller
+loop-w-smaller c = passes _ _ (h o c.loop-w-test.true)
+
+pub loop-w-preserved : goal.loop-w-preserved
+loop-w-preserved c =
+    let k = c.args.c in
+    let l = c.loop-w in
+    let t = c.loop-w-test.true in
+    let a = get_or l.tables l.w 0 in
+    let b = get_or l.tables (l.w + 1) 0 in
+    let e : c.reduced-e.result ≡ reduced (2 ^ k.m - 1) (a + b) =
+    c.reduced-e.ensures.0
+    ∙ ap₂ (λ (p x : ℕ). reduced p (x + c.wide-in-loop-w.result)) c.requires.0.is_period c.wide.ensures
+    ∙ ap (λ (x : ℕ). reduced (2 ^ k.m - 1) (a + x)) c.wide-in-loop-w.ensures in
+    let q =
+    pairs_step k.m (g o t) c.requires.0.size_most k.t l.tables l.invariant.4 l.w a b c.reduced-e.result _ _ l.invariant.1 l.invariant.0 (h o t)
+    refl refl e (ap (λ (i : ℕ). i + c.reduced-e.result) c.requires.0.is_roots) refl l.invariant.5 in
+    let even = even_size k.m (positive _ c.requires.0.lawful.m_least) in
+    let z = step _ _ c.requires.0.size_least even l.invariant.1 (h o t) in
+    (z.0, z.1, z.2, simp length-set l.invariant.3, q.0, q.1)
+
+pub shape_of-tables : goal.shape_of-tables
+shape_of-tables c = c.loop-w.invariant.3
+
+pub returns : goal.returns
+returns c =
+    let l = c.loop-w in
+    let k = c.args.c in
+    let even = even_size k.m (omega (arith, c.requires.0.lawful.m_least)) in
+    let e : l.w ≡ 2 ^ k.m =
+    even_end l.w k.period (2 ^ k.m) c.requires.0.is_period l.invariant.1 even (omega arith) l.invariant.2 in
+    let pairs = rw e at l.invariant.5 in
+    record { field = l.invariant.4; pairs = λ z. pairs; none = λ n. absurd (n c.if-c-ne2.false) }

@@ -1,0 +1,73 @@
+-- What is left of the sum, with what is added already, is the whole sum. Assumes nothing.
+use Prim.Native.Nat.{ℕ, ◌+◌, ◌-◌, ◌*◌, ◌/◌, ◌%◌, ◌≤◌, ◌<◌}
+use native.Mathlib.Omega.{arith}
+use mathlib.Core.Path.{◌≡◌, refl, ap, sym, ◌∙◌}
+use mathlib.Core.Logic.{⊎_elim}
+use mathlib.Core.Bool.{true, false}
+use mathlib.Core.List.{List, ◌++◌}
+use borrow.Author.Tests.{not-true, not-false}
+use lib.Dec.{eqb}
+use lib.ListN.{length, get_or, take, drop, length-append}
+use lib.Seq.{get_or-take, length-take-le}
+use Rattle.bch.specs.Words.{is_in}
+use Rattle.chase.proofs.ranking.Allowances.{turned, unflipped_sum, sum_skip, sum_add, sum_enough, sum_end}
+use Rattle.receiver.specs.Located.{flips_of}
+use Rattle.receiver.proofs.weighing.allowance.Goals as goal
+
+pub loop-k-init : goal.loop-k-init
+loop-k-init c = (omega arith, omega arith, omega arith)
+
+pub returns-then-d-full : goal.returns-then-d-full
+returns-then-d-full c =
+    let a = c.args in
+    let l = c.loop-k in
+    let ks = drop l.k (take a.d (a.keys.at ++ a.keys.more)) in
+    let none : a.d - l.full ≡ 0 = omega (arith, c.if-d-full.true) in
+    omega (arith, l.invariant.2, ap (λ (k : ℕ). unflipped_sum (flips_of a.f) l.r k ks) none, sum_enough (flips_of a.f) l.r ks)
+
+pub overflow_add-sum : goal.overflow_add-sum
+overflow_add-sum c = omega (arith, c.held-sum.ensures.1)
+
+pub loop-k-preserved : goal.loop-k-preserved
+loop-k-preserved c =
+    let a = c.args in
+    let l = c.loop-k in
+    let ks = a.keys.at ++ a.keys.more in
+    let room : a.d ≤ length ks = omega (arith, length-append a.keys.at a.keys.more, c.requires.0, c.requires.1, c.requires.2) in
+    let more = c.loop-k-test.true in
+    let short = c.if-d-full.false in
+    let key = c.key_at-key in
+    let e = rw c.place_of.ensures at c.turns.ensures in
+    ⊎_elim
+    (λ w. (
+      omega arith,
+      omega (arith, w.1.ensures.1, w.2),
+      rw (w.2, w.3)
+          (added (flips_of a.f) ks a.d l.r l.full l.k l.sum _ key.result room more short key.ensures l.invariant.2 w.1.result
+          w.1.ensures.0 (sym e ∙ not-true _ w.0.taken)),
+    ))
+    (λ w. (
+      omega arith,
+      omega (arith, w.1),
+      rw (w.1, w.2)
+          (passed (flips_of a.f) ks a.d l.r l.full l.k l.sum _ key.result room more short key.ensures l.invariant.2
+          (sym e ∙ not-false _ w.0.left)),
+    ))
+    c.if-not-turns.branch
+
+pub returns : goal.returns
+returns c =
+    let a = c.args in
+    let l = c.loop-k in
+    let ks = a.keys.at ++ a.keys.more in
+    omega (
+      arith,
+      l.invariant.2,
+      sum_end (flips_of a.f) l.r (a.d - l.full) l.k (take a.d ks)
+          (omega (
+            arith,
+            l.invariant.0,
+            c.loop-k-test.false,
+            length-take-le a.d ks (omega (arith, length-append a.keys.at a.keys.more, c.requires.0, c.requires.1, c.requires.2)),
+          )),
+    )

@@ -1,0 +1,103 @@
+-- Each position located adds its flip to what the test word weighs, or takes it away. Assumes nothing.
+use Prim.Native.Nat.{ℕ, ◌+◌, ◌-◌, ◌≤◌}
+use native.Mathlib.Omega.{arith}
+use mathlib.Core.Path.{◌≡◌, refl, sym, ◌∙◌}
+use mathlib.Core.Bool.{true, false}
+use mathlib.Core.Logic.{⊎_elim}
+use lib.ListN.{get_or, take}
+use lib.Seq.{take-take}
+use Rattle.bch.specs.Words.{flipped_at}
+use Rattle.chase.specs.Soft.{hard_bits, reliabilities}
+use Rattle.chase.specs.Word.{test}
+use Rattle.chase.proofs.weighing.Weights.{Weighs, weighs_small}
+use Rattle.chase.proofs.search.Ready.{length_candidate, start_weighs, next_below, out_at, back_at}
+use Rattle.receiver.proofs.weighing.weigh.Goals as goal
+
+-- ?? abbrev Turned : tie.After-flipped invariant-loop decreases-loop → ℕ → ℕ → Type 0
+-- ?? Turned c q sum =
+-- ??     let a = c.before.before.before.before.before.before.before.args in
+-- ??     Weighs (reliabilities a.s.now)
+-- ??     (flipped_at (take (c.before.before.before.before.loop.a + 1) (take a.f.count a.f.at)) (test a.p a.s.now a.j))
+-- ??     (hard_bits a.s.now) q sum
+-- ?? 
+-- ?? -- at a position that the test word flips ..
+
+-- ?? back : (c : tie.After-flipped invariant-loop decreases-loop) → c.flipped.result ≡ true → (1 ≤ c.before.before.before.before.loop.q)
+-- ??     × (c.before.z-at.result ≤ c.before.before.before.before.loop.sum)
+-- ??     × Turned c (c.before.before.before.before.loop.q - 1) (c.before.before.before.before.loop.sum - c.before.z-at.result)
+-- ?? back c h =
+-- ??     let s = c.before.before.before.before.before.before.before in
+-- ??     let a = s.args in
+-- ??     let l = c.before.before.before.before.loop in
+-- ??     let x = c.before.before.entry_of.ensures in
+-- ??     back_at a.s.now a.keys.at a.p s.requires.0 a.j a.f.at a.f.count l.a l.q l.sum
+-- ??     c.before.z-at.result s.requires.1.0.2 (omega arith) (omega arith) (rw x at c.before.z-at.ensures.0) l.invariant.1
+-- ??     (rw x at (sym h ∙ c.flipped.ensures))
+-- ?? 
+-- ?? -- .. and at another
+
+-- ?? out : (c : tie.After-flipped invariant-loop decreases-loop) → c.flipped.result ≡ false
+-- ??     → Turned c (c.before.before.before.before.loop.q + 1) (c.before.before.before.before.loop.sum + c.before.z-at.result)
+-- ?? out c h =
+-- ??     let s = c.before.before.before.before.before.before.before in
+-- ??     let a = s.args in
+-- ??     let l = c.before.before.before.before.loop in
+-- ??     let x = c.before.before.entry_of.ensures in
+-- ??     out_at a.s.now a.keys.at a.p s.requires.0 a.j a.f.at a.f.count l.a l.q l.sum
+-- ??     c.before.z-at.result s.requires.1.0.2 (omega arith) (omega arith) (rw x at c.before.z-at.ensures.0) l.invariant.1
+-- ??     (rw x at (sym h ∙ c.flipped.ensures))
+-- ?? 
+-- ?? -- the weight so far is small
+
+-- ?? few : (c : tie.After-flipped invariant-loop decreases-loop)
+-- ??     → (c.before.before.before.before.loop.q ≤ 1023) × (c.before.before.before.before.loop.sum ≤ 15345)
+-- ?? few c =
+-- ??     let s = c.before.before.before.before.before.before.before in
+-- ??     let a = s.args in
+-- ??     let l = c.before.before.before.before.loop in
+-- ??     weighs_small a.s.now _ l.q l.sum s.requires.0.most
+-- ??     (length_candidate a.s.now a.keys.at a.p s.requires.0 a.j (take l.a (take a.f.count a.f.at))) l.invariant.1
+
+pub loop-a-init : goal.loop-a-init
+loop-a-init c =
+    let a = c.args in
+    (omega arith, start_weighs a.s.now a.keys.at a.p c.requires.ready a.j a.start (take a.f.count a.f.at) c.requires.start_value)
+
+pub entry_of-x-requires : goal.entry_of-x-requires
+entry_of-x-requires c = (omega arith, c.requires.count_bound.1)
+
+pub z_at-z-requires : goal.z_at-z-requires
+z_at-z-requires c =
+    let a = c.args in
+    let l = c.loop-a in
+    rw c.entry_of-x.ensures
+    (next_below a.s.now a.keys.at a.p c.requires.ready a.j a.f.at a.f.count l.a l.q l.sum
+    (get_or (reliabilities a.s.now) (get_or a.f.at l.a 0) 0) c.requires.count_bound.2 (omega arith) (omega arith) refl l.invariant.1)
+
+pub flipped-requires : goal.flipped-requires
+flipped-requires c = record { ready = c.requires.ready; z_value = c.z_at-z.ensures.0 }
+
+pub overflow_sub-q : goal.overflow_sub-q
+overflow_sub-q c = (back c.before ?PLACE c.if-flipped.true).0
+
+pub overflow_sub-sum : goal.overflow_sub-sum
+overflow_sub-sum c = (back c.before ?PLACE c.if-flipped.true).1
+
+pub overflow_add-q : goal.overflow_add-q
+overflow_add-q c = omega (arith, (few c.before ?PLACE).0)
+
+pub overflow_add-sum : goal.overflow_add-sum
+overflow_add-sum c = omega (arith, (few c.before ?PLACE).1, c.z_at-z.ensures.1)
+
+pub loop-a-preserved : goal.loop-a-preserved
+loop-a-preserved c =
+    ⊎_elim (λ w. rw (w.1, w.2) (omega arith, (back c.before ?PLACE w.0.taken).2)) (λ w. rw (w.1, w.2) (omega arith, out c.before ?PLACE w.0.left))
+    c.if-flipped.branch
+
+pub returns : goal.returns
+returns c =
+    let f = c.args.f in
+    let l = c.loop-a in
+    let e : l.a ≡ f.count = omega arith in
+    let t : take l.a (take f.count f.at) ≡ take f.count f.at = rw e (take-take f.count f.count f.at (omega arith)) in
+    rw t at l.invariant.1
