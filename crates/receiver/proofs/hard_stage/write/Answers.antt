@@ -16,6 +16,7 @@ use Rattle.bch.proofs.logarithms.Repairs.{lost_answer_lem, found_answer}
 use Rattle.take_format.specs.Calls.{found, hard_record}
 use Rattle.refusal.specs.Named.{code_of}
 use Rattle.receiver.specs.Answer.{hard_of}
+use mathlib.Core.Bool.{not}
 use Rattle.receiver.proofs.hard_stage.write.Goals as goal
 
 pub returns-then-not-found : goal.returns-then-not-found
@@ -23,20 +24,20 @@ unfolding hard_of hard_record three_places
 returns-then-not-found c =
     let a = c.args in
     let f = a.f in
-    let h = lost_answer_lem (code_of a.c) a.bits.now f.found f.count f.at c.requires.repairs.0 (not-true _ c.if-not-found.true) a.codeword.now in
+    let h = lost_answer_lem (code_of a.c) a.bits.now f.found f.count f.at c.requires.repairs.0 (not-true _ (ap not c.if-not-found.true)) a.codeword.now in
     record { result_value = ap (λ (o : Option Repair). hard_record (inr o)) h.0; codeword_after = h.1 }
 
 pub flip_at-requires : goal.flip_at-requires
 flip_at-requires c =
     let e = c.copy.ensures in
-    (rw e c.requires.bits_len.2, rw (e, c.requires.bits_len.0, zero-add) (c.requires.repairs.1 (not-false _ c.if-not-found.false)))
+    (rw e c.requires.bits_len.2, rw (e, c.requires.bits_len.0, zero-add) (c.requires.repairs.1 (not-false _ (ap not c.if-not-found.false))))
 
 pub returns : goal.returns
 unfolding hard_of hard_record
 returns c =
     let a = c.args in
     let f = a.f in
-    let z = not-false _ c.if-not-found.false in
+    let z = not-false _ (ap not c.if-not-found.false) in
     let p = c.requires.repairs.1 z in
     let room : f.count ≤ length f.at = omega (arith, p.few, p.long) in
     let h = found_answer (code_of a.c) a.bits.now f.found f.count f.at c.requires.repairs.0 z a.codeword.now in

@@ -10,6 +10,16 @@ use Rattle.bch.proofs.logarithms.LogBounds.{power_lt}
 use Rattle.receiver.proofs.Places.{folded_le, low_fits}
 use Rattle.receiver.proofs.locate.by_cubes.Goals as goal
 
+module _ (s p l : ℕ) (most : s ≤ 1024) (is-p : p ≡ s - 1) (h : l < s - 1) where
+  third-lt : l / 3 < s + 7
+  third-lt = omega arith
+
+  next-lt : l / 3 + p / 3 < s + 7
+  next-lt = omega arith
+
+  next_fits : Fits w64 (l / 3 + p / 3)
+  next_fits = record { fits = omega arith }
+
 pub returns-then-period-ne0 : goal.returns-then-period-ne0
 returns-then-period-ne0 c =
     let a = c.args in

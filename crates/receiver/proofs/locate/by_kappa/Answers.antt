@@ -10,26 +10,51 @@ use Rattle.bch.proofs.logarithms.LogBounds.{power_lt, roots_lt}
 use Rattle.receiver.proofs.Places.{below_period, folded_le, low_fits}
 use Rattle.receiver.proofs.locate.by_kappa.Goals as goal
 
--- ?? small : (s x : ℕ) → s ≤ 1024 → x < s - 1 → Fits w64 x
--- ?? small s x most h = record { fits = omega arith }
--- ?? 
--- ?? -- ---- the two logarithms, and the two roots
--- ?? 
--- ?? module _ (o : tie.After-log-of2) where
--- ??   d_lt : o.before.log-of.result < 2 ^ o.before.before.before.args.c.m - 1
--- ??   d_lt = o.before.log-of.ensures.2 o.before.before.before.requires.4
--- ?? 
--- ??   e-lt : o.log-of2.result < 2 ^ o.before.before.before.args.c.m - 1
--- ??   e-lt = o.log-of2.ensures.2 o.before.before.before.pre.6
--- ?? 
--- ?? module _ (o : tie.Else1) where
--- ??   two-lt : (o.before.roots_of.result % 1024 < 2 ^ o.before.before.before.before.before.before.before.args.c.m - 1)
--- ??       × (o.before.roots_of.result / 1024 < 2 ^ o.before.before.before.before.before.before.before.args.c.m - 1)
--- ??   two-lt =
--- ??       let s = o.before.before.before.before.before.before.before in
--- ??       let a = s.args in
--- ??       roots_lt a.c.m a.c.t a.tables.now s.requires.0.tables s.requires.1 _ _ o.before.before.fold.ensures.1
--- ??       o.before.roots_of.ensures o.if1.false
+module _ (s p d e : ℕ) (most : s ≤ 1024) (is-p : p ≡ s - 1) (hd : d < s - 1) (he : e < s - 1) where
+  cube-fits : Fits w64 (3 * e)
+  cube-fits = record { fits = omega arith }
+
+  fifth-fits : Fits w64 (5 * (p - d))
+  fifth-fits = record { fits = omega arith }
+
+  kappa-fits : Fits w64 (3 * e + 5 * (p - d))
+  kappa-fits = record { fits = omega arith }
+
+  kappa-lt : 3 * e + 5 * (p - d) < 8 * (s - 1)
+  kappa-lt = omega arith
+
+  square-fits : Fits w64 (2 * d)
+  square-fits = record { fits = omega arith }
+
+  scale-fits : Fits w64 (2 * d + (p - e))
+  scale-fits = record { fits = omega arith }
+
+  root_fits : (r : ℕ) → r < s - 1 → Fits w64 (2 * d + (p - e) + r)
+  root_fits r h = record { fits = omega arith }
+
+  root-lt : (r : ℕ) → r < s - 1 → 2 * d + (p - e) + r < 8 * (s - 1)
+  root-lt r h = omega arith
+
+small : (s x : ℕ) → s ≤ 1024 → x < s - 1 → Fits w64 x
+small s x most h = record { fits = omega arith }
+
+-- ---- the two logarithms, and the two roots
+
+module _ (o : tie.After-log-of2) where
+  d_lt : o.before.log-of.result < 2 ^ o.before.before.before.args.c.m - 1
+  d_lt = o.before.log-of.ensures.2 o.before.before.before.requires.4
+
+  e-lt : o.log-of2.result < 2 ^ o.before.before.before.args.c.m - 1
+  e-lt = o.log-of2.ensures.2 o.before.before.before.pre.6
+
+module _ (o : tie.Else1) where
+  two-lt : (o.before.roots_of.result % 1024 < 2 ^ o.before.before.before.before.before.before.before.args.c.m - 1)
+      × (o.before.roots_of.result / 1024 < 2 ^ o.before.before.before.before.before.before.before.args.c.m - 1)
+  two-lt =
+      let s = o.before.before.before.before.before.before.before in
+      let a = s.args in
+      roots_lt a.c.m a.c.t a.tables.now s.requires.0.tables s.requires.1 _ _ o.before.before.fold.ensures.1
+      o.before.roots_of.ensures o.if1.false
 
 pub log_of-ld-requires : goal.log_of-ld-requires
 log_of-ld-requires c = (c.requires.0.fielded, c.requires.3)

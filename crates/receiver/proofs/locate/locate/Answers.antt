@@ -14,22 +14,23 @@ use Rattle.receiver.proofs.locate.locate.Goals as goal
 three : (t : ℕ) → (t ≡ 1 → ⊥) → (t ≡ 2 → ⊥) → 1 ≤ t → t ≤ 3 → t ≡ 3
 three t one two least most = omega arith
 
--- ?? element-fits : (s x : ℕ) → s ≤ 1024 → x < s → Fits w64 x
--- ?? element-fits s x most h = record { fits = omega arith }
--- ?? 
--- ?? -- what is left of the syndromes, and its parts
--- ?? module _ (o : tie.After-powers-of) where
--- ??   left : bit_xor o.before.before.before.before.args.s o.powers-of.result
--- ??       ≡ bit_xor o.before.before.before.before.args.s
--- ??       (powers_in o.before.before.before.before.args.c.m o.before.before.before.before.args.tables.now o.before.log-of.result)
--- ??   left = ap (bit_xor o.before.before.before.before.args.s) o.powers-of.ensures
--- ?? 
--- ??   parts-lt : (bit_xor o.before.before.before.before.args.s o.powers-of.result / 1024 % 1024 < 2 ^ o.before.before.before.before.args.c.m)
--- ??       × (bit_xor o.before.before.before.before.args.s o.powers-of.result / 1048576 < 2 ^ o.before.before.before.before.args.c.m)
--- ??   parts-lt =
--- ??       let s = o.before.before.before.before in
--- ??       let a = s.args in
--- ??       rest_lt a.c.m a.c.t a.tables.now s.pre.0.tables a.s _ _ o.before.log-of.ensures.0 left s.pre.1
+element-fits : (s x : ℕ) → s ≤ 1024 → x < s → Fits w64 x
+element-fits s x most h = record { fits = omega arith }
+
+-- what is left of the syndromes, and its parts
+
+module _ (o : tie.After-powers-of) where
+  left : bit_xor o.before.before.before.before.args.s o.powers-of.result
+      ≡ bit_xor o.before.before.before.before.args.s
+      (powers_in o.before.before.before.before.args.c.m o.before.before.before.before.args.tables.now o.before.log-of.result)
+  left = ap (bit_xor o.before.before.before.before.args.s) o.powers-of.ensures
+
+  parts-lt : (bit_xor o.before.before.before.before.args.s o.powers-of.result / 1024 % 1024 < 2 ^ o.before.before.before.before.args.c.m)
+      × (bit_xor o.before.before.before.before.args.s o.powers-of.result / 1048576 < 2 ^ o.before.before.before.before.args.c.m)
+  parts-lt =
+      let s = o.before.before.before.before in
+      let a = s.args in
+      rest_lt a.c.m a.c.t a.tables.now s.pre.0.tables a.s _ _ o.before.log-of.ensures.0 left s.pre.1
 
 pub returns-then-s-eq0 : goal.returns-then-s-eq0
 returns-then-s-eq0 c =

@@ -9,6 +9,16 @@ use Rattle.receiver.proofs.Places.{below_period, low_fits}
 use Rattle.bch.proofs.logarithms.LogSteps.{pair_lost, pair_found}
 use Rattle.receiver.proofs.locate.pair.Goals as goal
 
+module _ (s p l d : ℕ) (most : s ≤ 1024) (is-p : p ≡ s - 1) (hl : l < s - 1) (hd : d < s - 1) where
+  cubed-fits : Fits w64 (3 * (p - l))
+  cubed-fits = record { fits = omega arith }
+
+  ratio-fits : Fits w64 (d + 3 * (p - l))
+  ratio-fits = record { fits = omega arith }
+
+  ratio-lt : d + 3 * (p - l) < 8 * (s - 1)
+  ratio-lt = omega arith
+
 pub log_of-ld-requires : goal.log_of-ld-requires
 log_of-ld-requires c = (c.requires.0.fielded, c.requires.2)
 

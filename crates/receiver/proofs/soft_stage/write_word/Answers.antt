@@ -15,11 +15,8 @@ use Rattle.chase.proofs.search.Ready.{places_of, places_weak, weak_distinct}
 use Rattle.receiver.specs.Located.{flips_of}
 use Rattle.receiver.proofs.soft_stage.write_word.Goals as goal
 
-pub write_bits-requires : goal.write_bits-requires
-write_bits-requires c =
-    search rules
-
 -- the bits that are written first, of a word with from and after it as many as it has
+
 module _ (ss : List ℕ) (from : ℕ) (ys : List ℕ) (e : ys ≡ drop from (hard_bits ss)) where
   as_long : from ≤ length ss → from + length ys ≡ length ss
   as_long h = omega (arith, ap length e, length-drop from (hard_bits ss), length_hard ss)

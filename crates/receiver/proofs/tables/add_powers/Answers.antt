@@ -34,45 +34,48 @@ few d h = omega arith
 steps : (d s : ℕ) → d ≤ 5 → 32 ≤ s → d < s - 1
 steps d s h k = omega arith
 
--- ?? stages : (t : ℕ) → 1 ≤ t → t ≤ 2 → (t ≤ 3) × (1 ≤ t + 1) × (t + 1 ≤ 3)
--- ?? stages t l u = (omega arith, omega arith, omega arith)
--- ?? 
--- ?? -- ---- at the inner loop's test, in the period: i is below it too
--- ?? 
--- ?? module _
--- ??     (o : tie.At-loop2 invariant-loop2 decreases-loop2 invariant-loop decreases-loop)
--- ??     (h : o.loop2.e < o.before.before.before.before.before.args.c.period) where
--- ??   g : Primitive o.before.before.before.before.before.args.c.m
--- ??   g = let k = o.before.before.before.before.before.requires.0.lawful in primitive_5_10 _ k.m_least k.m_most
--- ?? 
--- ??   e-lt : o.loop2.e < 2 ^ o.before.before.before.before.before.args.c.m - 1
--- ??   e-lt = subst (λ (p : ℕ). o.loop2.e < p) o.before.before.before.before.before.pre.0.is_period h
--- ?? 
--- ??   i_lt : o.loop2.i < 2 ^ o.before.before.before.before.before.args.c.m - 1
--- ??   i_lt = turn_inside _ o.before.before.before.before.before.args.d o.loop2.i o.loop2.e e-lt o.loop2.inv.5
--- ?? 
--- ??   i-at : o.before.before.before.before.before.args.c.powers + o.loop2.i < length o.loop2.tables
--- ??   i-at = power_at _ _ _ _ o.before.before.before.before.before.pre.0.is_powers i_lt o.loop2.inv.6.long
--- ?? 
--- ??   i-scaled : Fits w64 ((o.before.before.before.before.before.args.c.powers + o.loop2.i) * 4)
--- ??   i-scaled = let k = o.before.before.before.before.before.pre.0 in power_scaled _ _ _ k.size_most k.is_powers (near _ _ i_lt)
--- ?? 
--- ??   i-fits : Fits w64 (o.before.before.before.before.before.args.c.powers + o.loop2.i)
--- ??   i-fits = let k = o.before.before.before.before.before.pre.0 in power_fits _ _ _ k.size_most k.is_powers (near _ _ i_lt)
--- ?? 
--- ??   -- the entry at i still holds what it held, which is below the scale
--- ??   entry_lt : get_or o.loop2.tables (o.before.before.before.before.before.args.c.powers + o.loop2.i) 0
--- ??       < o.before.before.before.before.before.args.scale
--- ??   entry_lt =
--- ??       let s = o.before.before.before.before.before in
--- ??       let a = s.args in
--- ??       let m = a.c.m in
--- ??       let l = o.loop2 in
--- ??       subst (λ (x : ℕ). x < a.scale)
--- ??       (sym
--- ??       (ap (λ (p : ℕ). get_or l.tables (p + l.i) 0) s.pre.0.is_powers
--- ??       ∙ mixed_here m (stage m a.t) (stage m (a.t + 1)) l.tables l.i i_lt l.inv.6))
--- ??       (s.pre.1.low l.i)
+stages : (t : ℕ) → 1 ≤ t → t ≤ 2 → (t ≤ 3) × (1 ≤ t + 1) × (t + 1 ≤ 3)
+stages t l u = (omega arith, omega arith, omega arith)
+
+-- ---- at the inner loop's test, in the period: i is below it too
+
+module _
+    (o : tie.At-loop2 invariant-loop2 decreases-loop2 invariant-loop decreases-loop)
+    (h : o.loop2.e < o.before.before.before.before.before.args.c.period) where
+  g : Primitive o.before.before.before.before.before.args.c.m
+  g = let k = o.before.before.before.before.before.requires.0.lawful in primitive_5_10 _ k.m_least k.m_most
+
+  e-lt : o.loop2.e < 2 ^ o.before.before.before.before.before.args.c.m - 1
+  e-lt = subst (λ (p : ℕ). o.loop2.e < p) o.before.before.before.before.before.pre.0.is_period h
+
+  i_lt : o.loop2.i < 2 ^ o.before.before.before.before.before.args.c.m - 1
+  i_lt = turn_inside _ o.before.before.before.before.before.args.d o.loop2.i o.loop2.e e-lt o.loop2.inv.5
+
+  i-at : o.before.before.before.before.before.args.c.powers + o.loop2.i < length o.loop2.tables
+  i-at = power_at _ _ _ _ o.before.before.before.before.before.pre.0.is_powers i_lt o.loop2.inv.6.long
+
+  i-scaled : Fits w64 ((o.before.before.before.before.before.args.c.powers + o.loop2.i) * 4)
+  i-scaled = let k = o.before.before.before.before.before.pre.0 in power_scaled _ _ _ k.size_most k.is_powers (near _ _ i_lt)
+
+  i-fits : Fits w64 (o.before.before.before.before.before.args.c.powers + o.loop2.i)
+  i-fits = let k = o.before.before.before.before.before.pre.0 in power_fits _ _ _ k.size_most k.is_powers (near _ _ i_lt)
+
+  -- the entry at i still holds what it held, which is below the scale
+  entry_lt : get_or o.loop2.tables (o.before.before.before.before.before.args.c.powers + o.loop2.i) 0
+      < o.before.before.before.before.before.args.scale
+  entry_lt =
+      let s = o.before.before.before.before.before in
+      let a = s.args in
+      let m = a.c.m in
+      let l = o.loop2 in
+      subst (λ (x : ℕ). x < a.scale)
+      (sym
+      (ap (λ (p : ℕ). get_or l.tables (p + l.i) 0) s.pre.0.is_powers
+      ∙ mixed_here m (stage m a.t) (stage m (a.t + 1)) l.tables l.i i_lt l.inv.6))
+      (s.pre.1.low l.i)
+
+-- ?? same_length : tie.Need-same-length invariant-loop2 decreases-loop2 invariant-loop decreases-loop
+-- ?? same_length c = c.before.loop.invariant.2
 
 pub returns-then-c-t : goal.returns-then-c-t
 returns-then-c-t c =
@@ -187,9 +190,6 @@ loop-i-preserved c =
       subst (λ (k : ℕ). Turn (2 ^ c.args.c.m - 1) d l.i (l.e - k)) (sym p) out,
       l.invariant.6,
     )
-
-pub shape_of-tables : goal.shape_of-tables
-shape_of-tables c = c.loop-i.invariant.2
 
 pub returns : goal.returns
 returns c =

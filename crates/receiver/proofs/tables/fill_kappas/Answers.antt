@@ -13,6 +13,41 @@ use Rattle.receiver.proofs.Places.{power_at, root_at, entry_at, power_fits, powe
 use Rattle.receiver.proofs.Places.{near, inside, low_scaled, low_and, falls, goes_on, wrapped, ended, fell}
 use Rattle.receiver.proofs.tables.fill_kappas.Goals as goal
 
+module _
+    (o : tie.At-loop2 invariant-loop2 decreases-loop2 invariant-loop decreases-loop)
+    (h : o.loop2.e < o.before.before.before.before.before.before.args.c.period) where
+  g : Primitive o.before.before.before.before.before.before.args.c.m
+  g = let k = o.before.before.before.before.before.before.requires.0.lawful in primitive_5_10 _ k.m_least k.m_most
+
+  e-lt : o.loop2.e < 2 ^ o.before.before.before.before.before.before.args.c.m - 1
+  e-lt = subst (λ (p : ℕ). o.loop2.e < p) o.before.before.before.before.before.before.pre.0.is_period h
+
+  l_lt : o.loop2.l < 2 ^ o.before.before.before.before.before.before.args.c.m - 1
+  l_lt = turn_inside _ 3 o.loop2.l o.loop2.e e-lt o.loop2.inv.6
+
+  l-near : o.loop2.l < 2 ^ o.before.before.before.before.before.before.args.c.m + 8
+  l-near = near _ _ l_lt
+
+  module _
+      (x : ℕ)
+      (is_x : x ≡ bit_xor (get_or o.loop2.tables (o.before.before.before.before.before.before.args.c.powers + o.loop2.l) 0 % 1024) 1) where
+    is-next : x ≡ bit_xor (get_or o.loop2.tables (2 ^ o.before.before.before.before.before.before.args.c.m + o.loop2.l) 0 % 1024) 1
+    is-next =
+        let is_powers = o.before.before.before.before.before.before.pre.0.is_powers in
+        is_x ∙ ap (λ (p : ℕ). bit_xor (get_or o.loop2.tables (p + o.loop2.l) 0 % 1024) 1) is_powers
+
+    next-lt : (x < 2 ^ o.before.before.before.before.before.before.args.c.m)
+        × (get_or o.loop2.tables x 0 < 2 ^ o.before.before.before.before.before.before.args.c.m - 1)
+    next-lt =
+        let s = o.before.before.before.before.before.before in
+        let l = o.loop2 in
+        let k = s.pre.0.lawful in
+        next_entry s.args.c.m g s.pre.0.size_most s.args.c.t l.tables l.inv.7 l.l x k.t_least k.t_most k.m_most
+        l.inv.0 l_lt is-next
+
+-- ?? same_length : tie.Need-same-length invariant-loop2 decreases-loop2 invariant-loop decreases-loop
+-- ?? same_length c = c.before.loop.invariant.3
+
 pub returns-then-c-ne3 : goal.returns-then-c-ne3
 returns-then-c-ne3 c =
     let f = c.requires.1 in
@@ -158,9 +193,6 @@ loop-l-preserved c =
       o.invariant.7,
       o.invariant.8,
     )
-
-pub shape_of-tables : goal.shape_of-tables
-shape_of-tables c = c.loop-l.invariant.3
 
 pub returns : goal.returns
 returns c =

@@ -13,15 +13,14 @@ use Rattle.receiver.proofs.tables.fill_logs.Goals as goal
 small : (s x : ℕ) → s ≤ 1024 → x < s → x < 4294967296
 small s x most h = omega arith
 
--- ?? i_lt : (o : tie.In-loop invariant-loop decreases-loop) → o.before.loop.i < 2 ^ o.before.before.before.args.c.m - 1
--- ?? i_lt o = subst (λ (p : ℕ). o.before.loop.i < p) o.before.before.before.requires.0.is_period o.loop-test.true
-
 pub loop-i-init : goal.loop-i-init
 unfolding alpha
 loop-i-init c = (omega arith, refl, refl, omega arith, logs_none c.args.c.m c.args.tables.now c.requires.1 c.requires.2)
 
 pub narrow-requires : goal.narrow-requires
-narrow-requires c = small _ _ c.requires.0.size_most (inside _ _ (i_lt c))
+narrow-requires c =
+    let i_lt : c.loop-i.i < 2 ^ c.args.c.m - 1 = subst (λ (p : ℕ). c.loop-i.i < p) c.requires.0.is_period c.loop-i-test.true in
+    small _ _ c.requires.0.size_most (inside _ _ (i_lt))
 
 pub offset_bounds-tables-x : goal.offset_bounds-tables-x
 offset_bounds-tables-x c = entry_scaled _ _ c.requires.0.size_most c.loop-i.invariant.3
@@ -34,13 +33,15 @@ narrow-requires-in-loop-i c = small _ _ c.requires.0.size_most c.loop-i.invarian
 
 pub overflow_add-tables : goal.overflow_add-tables
 overflow_add-tables c =
+    let i_lt : c.loop-i.i < 2 ^ c.args.c.m - 1 = subst (λ (p : ℕ). c.loop-i.i < p) c.requires.0.is_period c.loop-i-test.true in
     let k = c.requires.0 in
-    power_fits _ _ _ k.size_most k.is_powers (near _ _ (i_lt c.before.before ?PLACE))
+    power_fits _ _ _ k.size_most k.is_powers (near _ _ (i_lt))
 
 pub offset_bounds-tables-powers : goal.offset_bounds-tables-powers
 offset_bounds-tables-powers c =
+    let i_lt : c.loop-i.i < 2 ^ c.args.c.m - 1 = subst (λ (p : ℕ). c.loop-i.i < p) c.requires.0.is_period c.loop-i-test.true in
     let k = c.requires.0 in
-    power_scaled _ _ _ k.size_most k.is_powers (near _ _ (i_lt c.before.before ?PLACE))
+    power_scaled _ _ _ k.size_most k.is_powers (near _ _ (i_lt))
 
 pub bounds-tables-powers : goal.bounds-tables-powers
 bounds-tables-powers c = let l = c.loop-i in omega (arith, length-set l.tables l.x c.narrow.result, l.invariant.4.long)
@@ -51,10 +52,14 @@ twice-x-requires c =
     (k.lawful.m_least, k.lawful.m_most, k.is_powers, k.is_polynomial, c.loop-i.invariant.3)
 
 pub overflow_add-i : goal.overflow_add-i
-overflow_add-i c = step_fits _ _ 1 c.requires.0.size_most (near _ _ (i_lt o)) (omega arith)
+overflow_add-i c =
+    let i_lt : c.loop-i.i < 2 ^ c.args.c.m - 1 = subst (λ (p : ℕ). c.loop-i.i < p) c.requires.0.is_period c.loop-i-test.true in
+    step_fits _ _ 1 c.requires.0.size_most (near _ _ (i_lt)) (omega arith)
 
 pub loop-i-smaller : goal.loop-i-smaller
-loop-i-smaller c = falls _ _ (i_lt c.before.before.before ?PLACE)
+loop-i-smaller c =
+    let i_lt : c.loop-i.i < 2 ^ c.args.c.m - 1 = subst (λ (p : ℕ). c.loop-i.i < p) c.requires.0.is_period c.loop-i-test.true in
+    falls _ _ (i_lt)
 
 pub loop-i-preserved : goal.loop-i-preserved
 loop-i-preserved c =

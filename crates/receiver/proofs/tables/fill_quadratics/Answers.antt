@@ -14,6 +14,19 @@ use mir.Val.{Fits}
 use Rattle.receiver.proofs.Places.{near, root_at, root_fits, root_scaled}
 use Rattle.receiver.proofs.tables.fill_quadratics.Goals as goal
 
+module _ (s a b : ℕ) (most : s ≤ 1024) (ha : a < s - 1) (hb : b < s - 1) where
+  both-fit : Fits w64 (a + b)
+  both-fit = record { fits = omega arith }
+
+  high_fits : Fits w32 (1024 * b)
+  high_fits = record { fits = omega arith }
+
+  packed-fits : Fits w32 (a + 1024 * b)
+  packed-fits = record { fits = omega arith }
+
+  both-lt : (p : ℕ) → p ≡ s - 1 → a + b < 2 * p
+  both-lt p e = omega arith
+
 positive : (m : ℕ) → 5 ≤ m → 1 ≤ m
 positive m h = omega arith
 
@@ -32,42 +45,34 @@ above x l e = omega arith
 after : (w : ℕ) → 2 ≤ w → 2 ≤ w + 1
 after w l = omega arith
 
--- ?? next-lt : (s w : ℕ) → w < s - 1 → (w < s) × (w + 1 < s)
--- ?? next-lt s w h = (omega arith, omega arith)
--- ?? 
--- ?? -- ---- the logarithms of w and w + 1
--- ?? 
--- ?? module _ (o : tie.At-loop invariant-loop decreases-loop) (test : o.loop.w < o.before.before.before.before.args.c.period) where
--- ??   h : o.loop.w < 2 ^ o.before.before.before.before.args.c.m - 1
--- ??   h = subst (λ (p : ℕ). o.loop.w < p) o.before.before.before.before.requires.0.is_period test
--- ?? 
--- ??   g : Primitive o.before.before.before.before.args.c.m
--- ??   g = let k = o.before.before.before.before.pre.0.lawful in primitive_5_10 o.before.before.before.before.args.c.m k.m_least k.m_most
--- ?? 
--- ??   log_lt : (x : ℕ) → 2 ≤ x → x < 2 ^ o.before.before.before.before.args.c.m
--- ??       → get_or o.loop.tables x 0 < 2 ^ o.before.before.before.before.args.c.m - 1
--- ??   log_lt x l u =
--- ??       let s = o.before.before.before.before in
--- ??       filled_log_lt s.args.c.m g s.pre.0.size_most s.args.c.t o.loop.tables o.loop.inv.4 x (above x l) u
--- ?? 
--- ??   first_lt : get_or o.loop.tables o.loop.w 0 < 2 ^ o.before.before.before.before.args.c.m - 1
--- ??   first_lt = log_lt o.loop.w o.loop.inv.0 (next-lt _ _ h).0
--- ?? 
--- ??   second_lt : get_or o.loop.tables (o.loop.w + 1) 0 < 2 ^ o.before.before.before.before.args.c.m - 1
--- ??   second_lt = log_lt (o.loop.w + 1) (after _ o.loop.inv.0) (next-lt _ _ h).1
--- ?? 
--- ?? -- their sum, reduced
+next-lt : (s w : ℕ) → w < s - 1 → (w < s) × (w + 1 < s)
+next-lt s w h = (omega arith, omega arith)
 
--- ?? sum_lt : (c : tie.After-reduced invariant-loop decreases-loop)
--- ??     → c.reduced.result < 2 ^ c.before.before.before.before.before.before.before.before.before.before.args.c.m - 1
--- ?? sum_lt c =
--- ??     let o = c.before.before.before.before.before.before in
--- ??     let k = o.before.before.before.before.requires.0 in
--- ??     let h = c.before.before.before.before.before.loop-test.true in
--- ??     let lt = both-lt _ _ _ k.size_most (first_lt o h) (second_lt o h) _ k.is_period in
--- ??     let sum = subst₂ (λ (a b : ℕ). a + b < 2 * o.before.before.before.before.args.c.period) (sym c.before.before.wide.ensures)
--- ??     (sym c.before.wide2.ensures) lt in
--- ??     subst (λ (p : ℕ). c.reduced.result < p) k.is_period (c.reduced.ensures.1 sum)
+-- ---- the logarithms of w and w + 1
+
+module _ (o : tie.At-loop invariant-loop decreases-loop) (test : o.loop.w < o.before.before.before.before.args.c.period) where
+  h : o.loop.w < 2 ^ o.before.before.before.before.args.c.m - 1
+  h = subst (λ (p : ℕ). o.loop.w < p) o.before.before.before.before.requires.0.is_period test
+
+  g : Primitive o.before.before.before.before.args.c.m
+  g = let k = o.before.before.before.before.pre.0.lawful in primitive_5_10 o.before.before.before.before.args.c.m k.m_least k.m_most
+
+  log_lt : (x : ℕ) → 2 ≤ x → x < 2 ^ o.before.before.before.before.args.c.m
+      → get_or o.loop.tables x 0 < 2 ^ o.before.before.before.before.args.c.m - 1
+  log_lt x l u =
+      let s = o.before.before.before.before in
+      filled_log_lt s.args.c.m g s.pre.0.size_most s.args.c.t o.loop.tables o.loop.inv.4 x (above x l) u
+
+  first_lt : get_or o.loop.tables o.loop.w 0 < 2 ^ o.before.before.before.before.args.c.m - 1
+  first_lt = log_lt o.loop.w o.loop.inv.0 (next-lt _ _ h).0
+
+  second_lt : get_or o.loop.tables (o.loop.w + 1) 0 < 2 ^ o.before.before.before.before.args.c.m - 1
+  second_lt = log_lt (o.loop.w + 1) (after _ o.loop.inv.0) (next-lt _ _ h).1
+
+-- their sum, reduced
+
+-- ?? same_length : tie.Need-same-length invariant-loop decreases-loop
+-- ?? same_length c = c.before.loop.invariant.3
 
 pub returns-then-c-ne2 : goal.returns-then-c-ne2
 returns-then-c-ne2 c = record { field = c.requires.1; pairs = λ z. absurd (c.if-c-ne2.true z); none = λ n. c.requires.2 }
@@ -96,16 +101,35 @@ overflow_add-tables c =
 
 pub overflow_add-tables-in-loop-w : goal.overflow_add-tables-in-loop-w
 overflow_add-tables-in-loop-w c =
+    let sum_lt : c.reduced-e.result < 2 ^ c.args.c.m - 1 = let k = c.requires.0 in
+    let h = c.loop-w-test.true in
+    let lt = both-lt _ _ _ k.size_most (first_lt o h) (second_lt o h) _ k.is_period in
+    let sum = subst₂ (λ (a b : ℕ). a + b < 2 * c.args.c.period) (sym c.wide.ensures)
+    (sym c.wide-in-loop-w.ensures) lt in
+    subst (λ (p : ℕ). c.reduced-e.result < p) k.is_period (c.reduced-e.ensures.1 sum) in
     let k = c.requires.0 in
-    root_fits _ _ _ k.size_most k.is_roots (near _ _ (sum_lt c.before ?PLACE))
+    root_fits _ _ _ k.size_most k.is_roots (near _ _ (sum_lt))
 
 pub offset_bounds-tables-c : goal.offset_bounds-tables-c
 offset_bounds-tables-c c =
+    let sum_lt : c.reduced-e.result < 2 ^ c.args.c.m - 1 = let k = c.requires.0 in
+    let h = c.loop-w-test.true in
+    let lt = both-lt _ _ _ k.size_most (first_lt o h) (second_lt o h) _ k.is_period in
+    let sum = subst₂ (λ (a b : ℕ). a + b < 2 * c.args.c.period) (sym c.wide.ensures)
+    (sym c.wide-in-loop-w.ensures) lt in
+    subst (λ (p : ℕ). c.reduced-e.result < p) k.is_period (c.reduced-e.ensures.1 sum) in
     let k = c.requires.0 in
-    root_scaled _ _ _ k.size_most k.is_roots (near _ _ (sum_lt c.before ?PLACE))
+    root_scaled _ _ _ k.size_most k.is_roots (near _ _ (sum_lt))
 
 pub bounds-tables-c : goal.bounds-tables-c
-bounds-tables-c c = root_at _ _ _ _ c.requires.0.is_roots (sum_lt c.before ?PLACE) c.loop-w.invariant.4.long
+bounds-tables-c c =
+    let sum_lt : c.reduced-e.result < 2 ^ c.args.c.m - 1 = let k = c.requires.0 in
+    let h = c.loop-w-test.true in
+    let lt = both-lt _ _ _ k.size_most (first_lt o h) (second_lt o h) _ k.is_period in
+    let sum = subst₂ (λ (a b : ℕ). a + b < 2 * c.args.c.period) (sym c.wide.ensures)
+    (sym c.wide-in-loop-w.ensures) lt in
+    subst (λ (p : ℕ). c.reduced-e.result < p) k.is_period (c.reduced-e.ensures.1 sum) in
+    root_at _ _ _ _ c.requires.0.is_roots (sum_lt) c.loop-w.invariant.4.long
 
 pub loop-w-smaller : goal.loop-w-smaller
 loop-w-smaller c = passes _ _ (h o c.loop-w-test.true)
@@ -127,9 +151,6 @@ loop-w-preserved c =
     let even = even_size k.m (positive _ c.requires.0.lawful.m_least) in
     let z = step _ _ c.requires.0.size_least even l.invariant.1 (h o t) in
     (z.0, z.1, z.2, simp length-set l.invariant.3, q.0, q.1)
-
-pub shape_of-tables : goal.shape_of-tables
-shape_of-tables c = c.loop-w.invariant.3
 
 pub returns : goal.returns
 returns c =

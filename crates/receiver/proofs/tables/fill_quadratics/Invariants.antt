@@ -26,16 +26,3 @@ abbrev pub decreases-loop-w : goal.decreases-loop-w
 decreases-loop-w l = 2 ^ l.c.m - l.w
 
 -- ---- of numbers: two logarithms a and b below the l.period of a field of s elements
-
-module _ (s a b : ℕ) (most : s ≤ 1024) (ha : a < s - 1) (hb : b < s - 1) where
-  both-fit : Fits w64 (a + b)
-  both-fit = record { fits = omega arith }
-
-  high_fits : Fits w32 (1024 * b)
-  high_fits = record { fits = omega arith }
-
-  packed-fits : Fits w32 (a + 1024 * b)
-  packed-fits = record { fits = omega arith }
-
-  both-lt : (p : ℕ) → p ≡ s - 1 → a + b < 2 * p
-  both-lt p e = omega arith

@@ -14,6 +14,30 @@ use Rattle.chase.proofs.ranking.Allowances.{turned, unflipped_sum, sum_skip, sum
 use Rattle.receiver.specs.Located.{flips_of}
 use Rattle.receiver.proofs.weighing.allowance.Goals as goal
 
+module _ (P ks : List ℕ) (d r full k sum total key : ℕ) (room : d ≤ length ks) (more : k < d) (short : full < d) (is_key : key ≡ get_or ks k 0)
+    (old : sum + unflipped_sum P r (d - full) (drop k (take d ks)) ≡ total) where
+  inside : k < length (take d ks)
+  inside = omega (arith, length-take-le d ks room)
+
+  same : get_or (take d ks) k 0 ≡ key
+  same = get_or-take d ks k 0 more ∙ sym is_key
+
+  one_more : d - full ≡ d - (full + 1) + 1
+  one_more = omega arith
+
+  -- its position is not flipped, ..
+  added : (z : ℕ) → z ≡ key / 1024 → turned (is_in (key % 1024) P) (eqb (r % 2) 1) ≡ false
+      → sum + z + unflipped_sum P (r / 2) (d - (full + 1)) (drop (k + 1) (take d ks)) ≡ total
+  added z e h =
+      let step = sum_add P r (d - (full + 1)) k (take d ks) inside (rw same h) in
+      omega (arith, old, rw (← one_more) at step, same)
+
+  -- .. or it is
+  passed : turned (is_in (key % 1024) P) (eqb (r % 2) 1) ≡ true → sum + unflipped_sum P (r / 2) (d - full) (drop (k + 1) (take d ks)) ≡ total
+  passed h =
+      let step = sum_skip P r (d - (full + 1)) k (take d ks) inside (rw same h) in
+      omega (arith, old, rw (← one_more) at step)
+
 pub loop-k-init : goal.loop-k-init
 loop-k-init c = (omega arith, omega arith, omega arith)
 

@@ -22,27 +22,3 @@ abbrev pub decreases-loop-k : goal.decreases-loop-k
 decreases-loop-k l = l.d - l.k
 
 -- ---- one key, of the first l.d of ks
-
-module _ (P ks : List ℕ) (l.d l.r l.full l.k l.sum total key : ℕ) (room : l.d ≤ length ks) (more : l.k < l.d) (short : l.full < l.d) (is_key : key ≡ get_or ks l.k 0)
-    (old : l.sum + unflipped_sum P l.r (l.d - l.full) (drop l.k (take l.d ks)) ≡ total) where
-  inside : l.k < length (take l.d ks)
-  inside = omega (arith, length-take-le l.d ks room)
-
-  same : get_or (take l.d ks) l.k 0 ≡ key
-  same = get_or-take l.d ks l.k 0 more ∙ sym is_key
-
-  one_more : l.d - l.full ≡ l.d - (l.full + 1) + 1
-  one_more = omega arith
-
-  -- its position is not flipped, ..
-  added : (z : ℕ) → z ≡ key / 1024 → turned (is_in (key % 1024) P) (eqb (l.r % 2) 1) ≡ false
-      → l.sum + z + unflipped_sum P (l.r / 2) (l.d - (l.full + 1)) (drop (l.k + 1) (take l.d ks)) ≡ total
-  added z e h =
-      let step = sum_add P l.r (l.d - (l.full + 1)) l.k (take l.d ks) inside (rw same h) in
-      omega (arith, old, rw (← one_more) at step, same)
-
-  -- .. or it is
-  passed : turned (is_in (key % 1024) P) (eqb (l.r % 2) 1) ≡ true → l.sum + unflipped_sum P (l.r / 2) (l.d - l.full) (drop (l.k + 1) (take l.d ks)) ≡ total
-  passed h =
-      let step = sum_skip P l.r (l.d - (l.full + 1)) l.k (take l.d ks) inside (rw same h) in
-      omega (arith, old, rw (← one_more) at step)

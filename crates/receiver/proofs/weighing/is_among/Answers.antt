@@ -13,6 +13,26 @@ use Rattle.bch.specs.Words.{is_in}
 use Rattle.chase.proofs.ranking.Allowances.{in_here, in_next, in_over}
 use Rattle.receiver.proofs.weighing.is_among.Goals as goal
 
+module _ (x count : ℕ) (at : List ℕ) (room : count ≤ length at) where
+  long : length (take count at) ≡ count
+  long = length-take-le count at room
+
+  here : (a : ℕ) → a < count → get_or at a 0 ≡ x → is_in x (drop a (take count at)) ≡ true
+  here a h e = in_here x a (take count at) (omega (arith, long)) (get_or-take count at a 0 h ∙ e)
+
+  next : (a : ℕ) → a < count → (get_or at a 0 ≡ x → ⊥) → is_in x (drop a (take count at)) ≡ is_in x (drop (a + 1) (take count at))
+  next a h n = in_next x a (take count at) (omega (arith, long)) (λ e. n (sym (get_or-take count at a 0 h) ∙ e))
+
+  over : (a : ℕ) → a ≡ count → is_in x (drop a (take count at)) ≡ false
+  over a e = in_over x a (take count at) (e ∙ sym long)
+
+  last : (a : ℕ) → count ≡ a + 1 → eqb (get_or at a 0) x ≡ is_in x (drop a (take count at))
+  last a e = go (ℕ_discrete (get_or at a 0) x)
+    where
+      go : Dec (get_or at a 0 ≡ x) → eqb (get_or at a 0) x ≡ is_in x (drop a (take count at))
+      go (yes h) = eq-eqb (get_or at a 0) x h ∙ sym (here a (omega arith) h)
+      go (no n) = ne_eqb (get_or at a 0) x n ∙ sym (next a (omega arith) n ∙ over (a + 1) (sym e))
+
 pub returns-then-count-eq0 : goal.returns-then-count-eq0
 returns-then-count-eq0 c =
     let f = c.args.f in

@@ -22,42 +22,6 @@ use Rattle.receiver.proofs.weighing.weigh.Goals as goal
 -- ?? 
 -- ?? -- at a position that the test word flips ..
 
--- ?? back : (c : tie.After-flipped invariant-loop decreases-loop) → c.flipped.result ≡ true → (1 ≤ c.before.before.before.before.loop.q)
--- ??     × (c.before.z-at.result ≤ c.before.before.before.before.loop.sum)
--- ??     × Turned c (c.before.before.before.before.loop.q - 1) (c.before.before.before.before.loop.sum - c.before.z-at.result)
--- ?? back c h =
--- ??     let s = c.before.before.before.before.before.before.before in
--- ??     let a = s.args in
--- ??     let l = c.before.before.before.before.loop in
--- ??     let x = c.before.before.entry_of.ensures in
--- ??     back_at a.s.now a.keys.at a.p s.requires.0 a.j a.f.at a.f.count l.a l.q l.sum
--- ??     c.before.z-at.result s.requires.1.0.2 (omega arith) (omega arith) (rw x at c.before.z-at.ensures.0) l.invariant.1
--- ??     (rw x at (sym h ∙ c.flipped.ensures))
--- ?? 
--- ?? -- .. and at another
-
--- ?? out : (c : tie.After-flipped invariant-loop decreases-loop) → c.flipped.result ≡ false
--- ??     → Turned c (c.before.before.before.before.loop.q + 1) (c.before.before.before.before.loop.sum + c.before.z-at.result)
--- ?? out c h =
--- ??     let s = c.before.before.before.before.before.before.before in
--- ??     let a = s.args in
--- ??     let l = c.before.before.before.before.loop in
--- ??     let x = c.before.before.entry_of.ensures in
--- ??     out_at a.s.now a.keys.at a.p s.requires.0 a.j a.f.at a.f.count l.a l.q l.sum
--- ??     c.before.z-at.result s.requires.1.0.2 (omega arith) (omega arith) (rw x at c.before.z-at.ensures.0) l.invariant.1
--- ??     (rw x at (sym h ∙ c.flipped.ensures))
--- ?? 
--- ?? -- the weight so far is small
-
--- ?? few : (c : tie.After-flipped invariant-loop decreases-loop)
--- ??     → (c.before.before.before.before.loop.q ≤ 1023) × (c.before.before.before.before.loop.sum ≤ 15345)
--- ?? few c =
--- ??     let s = c.before.before.before.before.before.before.before in
--- ??     let a = s.args in
--- ??     let l = c.before.before.before.before.loop in
--- ??     weighs_small a.s.now _ l.q l.sum s.requires.0.most
--- ??     (length_candidate a.s.now a.keys.at a.p s.requires.0 a.j (take l.a (take a.f.count a.f.at))) l.invariant.1
-
 pub loop-a-init : goal.loop-a-init
 loop-a-init c =
     let a = c.args in
@@ -78,20 +42,56 @@ pub flipped-requires : goal.flipped-requires
 flipped-requires c = record { ready = c.requires.ready; z_value = c.z_at-z.ensures.0 }
 
 pub overflow_sub-q : goal.overflow_sub-q
-overflow_sub-q c = (back c.before ?PLACE c.if-flipped.true).0
+overflow_sub-q c =
+    let back : c.flipped.result ≡ true → (1 ≤ c.loop-a.q) × (c.z_at-z.result ≤ c.loop-a.sum) × Turned c (c.loop-a.q - 1) (c.loop-a.sum - c.z_at-z.result) = λ h. let a = c.args in
+    let l = c.loop-a in
+    let x = c.entry_of-x.ensures in
+    back_at a.s.now a.keys.at a.p c.requires.ready a.j a.f.at a.f.count l.a l.q l.sum
+    c.z_at-z.result c.requires.count_bound.2 (omega arith) (omega arith) (rw x at c.z_at-z.ensures.0) l.invariant.1
+    (rw x at (sym h ∙ c.flipped.ensures)) in
+    (back c.if-flipped.true).0
 
 pub overflow_sub-sum : goal.overflow_sub-sum
-overflow_sub-sum c = (back c.before ?PLACE c.if-flipped.true).1
+overflow_sub-sum c =
+    let back : c.flipped.result ≡ true → (1 ≤ c.loop-a.q) × (c.z_at-z.result ≤ c.loop-a.sum) × Turned c (c.loop-a.q - 1) (c.loop-a.sum - c.z_at-z.result) = λ h. let a = c.args in
+    let l = c.loop-a in
+    let x = c.entry_of-x.ensures in
+    back_at a.s.now a.keys.at a.p c.requires.ready a.j a.f.at a.f.count l.a l.q l.sum
+    c.z_at-z.result c.requires.count_bound.2 (omega arith) (omega arith) (rw x at c.z_at-z.ensures.0) l.invariant.1
+    (rw x at (sym h ∙ c.flipped.ensures)) in
+    (back c.if-flipped.true).1
 
 pub overflow_add-q : goal.overflow_add-q
-overflow_add-q c = omega (arith, (few c.before ?PLACE).0)
+overflow_add-q c =
+    let few : (c.loop-a.q ≤ 1023) × (c.loop-a.sum ≤ 15345) = let a = c.args in
+    let l = c.loop-a in
+    weighs_small a.s.now _ l.q l.sum c.requires.ready.most
+    (length_candidate a.s.now a.keys.at a.p c.requires.ready a.j (take l.a (take a.f.count a.f.at))) l.invariant.1 in
+    omega (arith, (few).0)
 
 pub overflow_add-sum : goal.overflow_add-sum
-overflow_add-sum c = omega (arith, (few c.before ?PLACE).1, c.z_at-z.ensures.1)
+overflow_add-sum c =
+    let few : (c.loop-a.q ≤ 1023) × (c.loop-a.sum ≤ 15345) = let a = c.args in
+    let l = c.loop-a in
+    weighs_small a.s.now _ l.q l.sum c.requires.ready.most
+    (length_candidate a.s.now a.keys.at a.p c.requires.ready a.j (take l.a (take a.f.count a.f.at))) l.invariant.1 in
+    omega (arith, (few).1, c.z_at-z.ensures.1)
 
 pub loop-a-preserved : goal.loop-a-preserved
 loop-a-preserved c =
-    ⊎_elim (λ w. rw (w.1, w.2) (omega arith, (back c.before ?PLACE w.0.taken).2)) (λ w. rw (w.1, w.2) (omega arith, out c.before ?PLACE w.0.left))
+    let back : c.flipped.result ≡ true → (1 ≤ c.loop-a.q) × (c.z_at-z.result ≤ c.loop-a.sum) × Turned c (c.loop-a.q - 1) (c.loop-a.sum - c.z_at-z.result) = λ h. let a = c.args in
+    let l = c.loop-a in
+    let x = c.entry_of-x.ensures in
+    back_at a.s.now a.keys.at a.p c.requires.ready a.j a.f.at a.f.count l.a l.q l.sum
+    c.z_at-z.result c.requires.count_bound.2 (omega arith) (omega arith) (rw x at c.z_at-z.ensures.0) l.invariant.1
+    (rw x at (sym h ∙ c.flipped.ensures)) in
+    let out : c.flipped.result ≡ false → Turned c (c.loop-a.q + 1) (c.loop-a.sum + c.z_at-z.result) = λ h. let a = c.args in
+    let l = c.loop-a in
+    let x = c.entry_of-x.ensures in
+    out_at a.s.now a.keys.at a.p c.requires.ready a.j a.f.at a.f.count l.a l.q l.sum
+    c.z_at-z.result c.requires.count_bound.2 (omega arith) (omega arith) (rw x at c.z_at-z.ensures.0) l.invariant.1
+    (rw x at (sym h ∙ c.flipped.ensures)) in
+    ⊎_elim (λ w. rw (w.1, w.2) (omega arith, (back w.0.taken).2)) (λ w. rw (w.1, w.2) (omega arith, out w.0.left))
     c.if-flipped.branch
 
 pub returns : goal.returns
