@@ -26,16 +26,3 @@ abbrev pub decreases-loop-b : goal.decreases-loop-b
 decreases-loop-b l = l.p - l.b
 
 -- ---- one weak position more: from `l.to` test words of l.b positions l.to twice as many, of l.p positions l.at most
-
-record Step (l.b l.p l.to : ℕ) : Type 0 where
-  more : l.b < l.p
-  next : l.b + 1 ≤ l.p
-  next_fits : Fits w64 (l.b + 1)
-  falls : l.p - (l.b + 1) < l.p - l.b
-  inside : l.b < 6
-  doubled : 2 * l.to ≡ 2 ^ (l.b + 1)
-  to-fits : Fits w64 (2 * l.to)
-  to-most : 2 * l.to ≤ 64
-  room : (n : ℕ) → n ≡ 64 → 2 * l.to ≤ n
-  tried : (k n : ℕ) → k ≤ 2 ^ l.b → n ≡ 2 * l.to → k ≤ n
-  grown : (k : ℕ) → k ≤ 2 ^ l.b → k ≤ 2 ^ (l.b + 1)

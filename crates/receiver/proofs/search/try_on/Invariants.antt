@@ -10,6 +10,8 @@ use Rattle.refusal.specs.Named.{code_of}
 use Rattle.receiver.specs.Search.{Tried}
 use Rattle.receiver.proofs.Outcomes.{no_bool, judged_tries}
 use Rattle.receiver.proofs.Turns.{are_syndromes, turn_missed, turn_weight, turn_distinct, turn_judged}
+use mathlib.Core.Bool.{not}
+use mathlib.Core.Path.{ap}
 use Rattle.receiver.proofs.search.try_on.Given as goal
 
 abbrev pub invariant-loop-o : goal.invariant-loop-o
