@@ -2,6 +2,7 @@
 // alone. A slice is passed as a pointer and a length. What a call answers comes back as one number of 64 bits (`specs/Packed.antt`), so that
 // a refusal writes to no lent buffer; bindings/receiver.h tells how to read it.
 #![tactic(auto)]
+
 ghost use Rattle.std.specs.Prelude.{◌≡◌};
 ghost use Rattle.bch.specs.Code.{code};
 ghost use Rattle.take_format.specs.Refusal.{encode_refusal};

@@ -1,23 +1,21 @@
 -- How large the numbers of an answer can be by the flips of its candidate: each position weighs at most 15, at most p of them are flipped by
 -- the test word, and at most t by its repair. Assumes nothing.
-use Prim.Native.Nat.{ℕ, zero, suc, ◌+◌, ◌-◌, ◌*◌, ◌/◌, ◌%◌, ◌^◌, ◌≤◌, ◌<◌}
+use Prim.Native.Nat.{ℕ, ◌+◌, ◌*◌, ◌^◌, ◌≤◌, ◌<◌}
 use native.Mathlib.Omega.{arith}
 use mathlib.Core.Path.{◌≡◌, refl, sym, ◌∙◌}
 use mathlib.Core.Logic.{◌≢◌}
-use mathlib.Core.Bool.{Bool, true, false, cond}
-use mathlib.Core.List.{List, [], ◌∷◌, map}
+use mathlib.Core.List.{List}
 use borrow.Author.Tests.{lt-ltb, le-ltb}
 use native.Mathlib.Decide.{dec_lt}
-use lib.Dec.{leb, eqb}
 use lib.IntN.{sub_ℕ}
-use lib.ListN.{length, take}
+use lib.ListN.{length}
 use lib.Pow.{pow_pos}
 use lib.Signed.{mag}
-use Rattle.bch.specs.Words.{flips, flip}
-use Rattle.bch.specs.Code.{Code, word_length, design_distance}
+use Rattle.bch.specs.Words.{flips}
+use Rattle.bch.specs.Code.{Code, word_length}
 use Rattle.bch.proofs.codes.Settings.{Lawful}
-use Rattle.bch.proofs.codes.Counting.{flips_triangle, flips_flip, flips_same}
-use Rattle.chase.specs.Soft.{hard_bits, reliabilities, Ranked, insert_ranked, rank, sum, smallest_sum, unflipped, allowance, test_word, Answer}
+use Rattle.bch.proofs.codes.Counting.{flips_triangle}
+use Rattle.chase.specs.Soft.{hard_bits, reliabilities, Answer}
 use Rattle.chase.specs.Soft.{Mark, lost, fair, sure, lost_answer, soft_stage}
 use Rattle.chase.specs.Word.{Symbols, weakest, test, soft_distance, allowed, WordWeighed}
 use Rattle.chase.proofs.ranking.Keys.{reliability_lt}

@@ -1,5 +1,4 @@
 -- What the hard stage answers, packed. Assumes nothing.
--- ---- the number of a record, by its case
 use Prim.Native.Nat.{◌+◌, ◌*◌, ◌^◌}
 use mathlib.Core.Path.{◌≡◌, refl, ap, ◌∙◌}
 use lib.ListN.{get_or}

@@ -7,7 +7,6 @@ use mathlib.Core.Path.{refl, ◌∙◌}
 use Rattle.bch.specs.Code.{code}
 use Rattle.chase.specs.Soft.{lost_answer}
 use Rattle.receiver.specs.Answer.{soft_of}
-use Rattle.receiver.specs.declared.Soft.{Soft}
 use Rattle.receiver_c.specs.Packed.{soft_packed, answer_packed}
 use Rattle.receiver_c.proofs.Raised.{mag_again, handed_on}
 use Rattle.receiver_c.proofs.Sizes.{soft_refused, told_room, told_packed}

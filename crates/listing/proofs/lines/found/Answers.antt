@@ -20,6 +20,9 @@ returns c =
     let n = c.numbers-b.ensures in
     let b = c.bits-c.ensures in
     let h = c.character.ensures in
-    record { put = same_text
+    record {
+      put = same_text
           (found_text a.mark.now (decimal a.distance) (decimal a.tries) (bits_text a.message.now) (read_again a.margin c.ranges.margin))
-          (then m (then n.put (then b h))); upper_bound = omega (arith, c.requires.bits, m.ends, n.upper_bound, b.ends, bits_long a.message.now, h.ends) }
+          (then m (then n.put (then b h)));
+      upper_bound = omega (arith, c.requires.bits, m.ends, n.upper_bound, b.ends, bits_long a.message.now, h.ends);
+    }

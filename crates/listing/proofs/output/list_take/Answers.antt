@@ -1,5 +1,4 @@
 -- All words are listed, and behind them their totals. Assumes nothing.
--- the part of the codeword that is lent has n bytes
 use Prim.Native.Nat.{ℕ, ◌≤◌}
 use native.Mathlib.Omega.{arith}
 use mathlib.Core.Path.{◌≡◌, ap, sym, ◌∙◌}

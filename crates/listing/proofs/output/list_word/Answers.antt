@@ -66,9 +66,12 @@ returns c =
     let few = few_more a.w k c.requires.listable.3 (mark_byte x.mark) x.tries (tries_at bs h ok a.w l) in
     let told = c.counted.ensures ∙ counts k _ word x answer
     ∙ few_capped (a.w + 1) (counted_of k (mark_byte x.mark) x.tries) few (omega (arith, l, words_most bs h ok)) in
-    record { step = record {
+    record {
+      step = record {
         text = same_text (soft_line h.code a.w _ word x answer _ behind) put.put;
         at_most = omega (arith, put.upper_bound, ap length behind, length-drop (parity_length h.code) word, lent.long);
         totals = told;
         few = subst (Few (a.w + 1)) (sym told) few;
-      }; lent = lent }
+      };
+      lent = lent;
+    }

@@ -1,10 +1,9 @@
 -- The words so far are listed. Assumes nothing.
-use Prim.Native.Nat.{ℕ, ◌-◌, ◌≤◌}
+use Prim.Native.Nat.{ℕ}
 use native.Mathlib.Omega.{arith}
 use mathlib.Core.Path.{◌≡◌, refl, subst}
-use lib.ListN.{length}
 use Rattle.takes.specs.Answer.{header_of}
-use Rattle.listing.specs.Progress.{Lent, Listed}
+use Rattle.listing.specs.Progress.{Listed}
 use Rattle.listing.proofs.Listings.{line_room, listed_none, listed_more}
 use Rattle.listing.proofs.output.list_words.Goals as goal
 
@@ -14,13 +13,16 @@ loop-w-init c = (omega arith, c.requires.1, refl, listed_none _ _ _ _ refl refl)
 pub list_word-k-requires : goal.list_word-k-requires
 list_word-k-requires c =
     let l = c.loop-w in
-    record { listable = (c.requires.0, omega (arith, c.loop-w-test.true), l.invariant.1, l.invariant.3.few); h_in_bounds = omega (
+    record {
+      listable = (c.requires.0, omega (arith, c.loop-w-test.true), l.invariant.1, l.invariant.3.few);
+      h_in_bounds = omega (
         arith,
         l.invariant.2,
         c.requires.2,
         line_room _ (header_of c.args.h) c.requires.0 l.w l.k.at
             (omega (arith, c.loop-w-test.true)) l.invariant.3.at_most,
-      ) }
+      );
+    }
 
 pub loop-w-preserved : goal.loop-w-preserved
 loop-w-preserved c =

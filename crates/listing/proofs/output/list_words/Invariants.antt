@@ -1,11 +1,9 @@
 -- The words so far are listed. Assumes nothing.
-use Prim.Native.Nat.{ℕ, ◌-◌, ◌≤◌}
-use native.Mathlib.Omega.{arith}
-use mathlib.Core.Path.{◌≡◌, refl, subst}
+use Prim.Native.Nat.{◌-◌, ◌≤◌}
+use mathlib.Core.Path.{◌≡◌}
 use lib.ListN.{length}
 use Rattle.takes.specs.Answer.{header_of}
 use Rattle.listing.specs.Progress.{Lent, Listed}
-use Rattle.listing.proofs.Listings.{line_room, listed_none, listed_more}
 use Rattle.listing.proofs.output.list_words.Given as goal
 
 abbrev pub invariant-loop-w : goal.invariant-loop-w

@@ -1,5 +1,4 @@
 -- A digit, or the digits of a tenth and one behind them. Assumes nothing.
-use Prim.Native.Nat.{◌<◌}
 use native.Mathlib.Omega.{arith}
 use mathlib.Core.Path.{ap, sym}
 use lib.ListN.{length}

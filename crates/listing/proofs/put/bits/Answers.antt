@@ -1,9 +1,8 @@
 -- The characters of the bits so far are in place. Assumes nothing.
-use Prim.Native.Nat.{◌-◌, ◌≤◌}
 use native.Mathlib.Omega.{arith}
-use mathlib.Core.Path.{◌≡◌, refl}
-use lib.ListN.{length, length-set}
-use lib.Seq.{paste, paste-zero}
+use mathlib.Core.Path.{refl}
+use lib.ListN.{length-set}
+use lib.Seq.{paste-zero}
 use Rattle.bch.proofs.codes.Entries.{below_at}
 use Rattle.listing.specs.Text.{bits_text}
 use Rattle.listing.proofs.Texts.{put_more, put_all, bits_long, bits_at}

@@ -1,12 +1,9 @@
 -- The characters of the bits so far are in place. Assumes nothing.
 use Prim.Native.Nat.{◌-◌, ◌≤◌}
-use native.Mathlib.Omega.{arith}
-use mathlib.Core.Path.{◌≡◌, refl}
-use lib.ListN.{length, length-set}
-use lib.Seq.{paste, paste-zero}
-use Rattle.bch.proofs.codes.Entries.{below_at}
+use mathlib.Core.Path.{◌≡◌}
+use lib.ListN.{length}
+use lib.Seq.{paste}
 use Rattle.listing.specs.Text.{bits_text}
-use Rattle.listing.proofs.Texts.{put_more, put_all, bits_long, bits_at}
 use Rattle.listing.proofs.put.bits.Given as goal
 
 abbrev pub invariant-loop-i : goal.invariant-loop-i

@@ -1,9 +1,8 @@
 -- The characters so far are in place. Assumes nothing.
-use Prim.Native.Nat.{◌-◌, ◌≤◌}
 use native.Mathlib.Omega.{arith}
-use mathlib.Core.Path.{◌≡◌, refl}
-use lib.ListN.{length, length-set}
-use lib.Seq.{paste, paste-zero}
+use mathlib.Core.Path.{refl}
+use lib.ListN.{length-set}
+use lib.Seq.{paste-zero}
 use Rattle.listing.proofs.Texts.{put_more, put_all}
 use Rattle.listing.proofs.put.characters.Goals as goal
 

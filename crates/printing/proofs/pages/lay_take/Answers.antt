@@ -24,12 +24,11 @@ pub slice_bounds-lay_words-end : goal.slice_bounds-lay_words-end
 slice_bounds-lay_words-end c = sym (lent_long c.args.h.n (code_short _ (header_of c.args.h) c.requires.0.reading))
 
 pub lay_words-k-requires : goal.lay_words-k-requires
-lay_words-k-requires c =
-    (
-      c.requires.0,
-      lent_long c.args.h.n (code_short _ (header_of c.args.h) c.requires.0.reading),
-      c.requires.1 ∙ length_some c.args.h.words (not_zero _ c.if-h-eq0.false),
-    )
+lay_words-k-requires c = (
+  c.requires.0,
+  lent_long c.args.h.n (code_short _ (header_of c.args.h) c.requires.0.reading),
+  c.requires.1 ∙ length_some c.args.h.words (not_zero _ c.if-h-eq0.false),
+)
 
 pub returns : goal.returns
 returns c =

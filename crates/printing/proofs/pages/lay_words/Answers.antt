@@ -1,9 +1,7 @@
 -- The words so far are laid out. Assumes nothing.
-use Prim.Native.Nat.{ℕ, ◌-◌, ◌≤◌}
+use Prim.Native.Nat.{ℕ}
 use mathlib.Core.Path.{◌≡◌, refl, ◌∙◌, subst}
 use native.Mathlib.Omega.{arith}
-use lib.ListN.{length}
-use Rattle.bch.specs.Code.{word_length}
 use Rattle.takes.specs.Answer.{header_of}
 use Rattle.printing.specs.Progress.{Laid}
 use Rattle.printing.proofs.Layings.{entry_room, laid_none, laid_more}

@@ -1,12 +1,10 @@
 -- The words so far are laid out. Assumes nothing.
-use Prim.Native.Nat.{ℕ, ◌-◌, ◌≤◌}
-use mathlib.Core.Path.{◌≡◌, refl, ◌∙◌, subst}
-use native.Mathlib.Omega.{arith}
+use Prim.Native.Nat.{◌-◌, ◌≤◌}
+use mathlib.Core.Path.{◌≡◌}
 use lib.ListN.{length}
 use Rattle.bch.specs.Code.{word_length}
 use Rattle.takes.specs.Answer.{header_of}
 use Rattle.printing.specs.Progress.{Laid}
-use Rattle.printing.proofs.Layings.{entry_room, laid_none, laid_more}
 use Rattle.printing.proofs.pages.lay_words.Given as goal
 
 abbrev pub invariant-loop-w : goal.invariant-loop-w

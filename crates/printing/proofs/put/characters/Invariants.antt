@@ -1,10 +1,8 @@
 -- The characters so far are in place. Assumes nothing.
 use Prim.Native.Nat.{◌-◌, ◌≤◌}
-use native.Mathlib.Omega.{arith}
-use mathlib.Core.Path.{◌≡◌, refl}
-use lib.ListN.{length, length-set}
-use lib.Seq.{paste, paste-zero}
-use Rattle.listing.proofs.Texts.{put_more, put_all}
+use mathlib.Core.Path.{◌≡◌}
+use lib.ListN.{length}
+use lib.Seq.{paste}
 use Rattle.printing.proofs.put.characters.Given as goal
 
 abbrev pub invariant-loop-i : goal.invariant-loop-i

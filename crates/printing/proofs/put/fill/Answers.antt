@@ -1,10 +1,7 @@
 -- From the right, the characters so far are in place. Assumes nothing.
-use Prim.Native.Nat.{◌≤◌}
-use mathlib.Core.Path.{◌≡◌, refl}
+use mathlib.Core.Path.{refl}
 use native.Mathlib.Omega.{arith}
-use mathlib.Core.List.{◌++◌}
-use lib.ListN.{length, drop, length-set}
-use Rattle.printing.specs.Fixed.{filled}
+use lib.ListN.{length-set}
 use Rattle.printing.proofs.Fields.{fill_start, fill_again, fill_end}
 use Rattle.printing.proofs.put.fill.Goals as goal
 

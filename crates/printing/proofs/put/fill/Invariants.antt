@@ -1,11 +1,9 @@
 -- From the right, the characters so far are in place. Assumes nothing.
 use Prim.Native.Nat.{◌≤◌}
-use mathlib.Core.Path.{◌≡◌, refl}
-use native.Mathlib.Omega.{arith}
+use mathlib.Core.Path.{◌≡◌}
 use mathlib.Core.List.{◌++◌}
-use lib.ListN.{length, drop, length-set}
+use lib.ListN.{length, drop}
 use Rattle.printing.specs.Fixed.{filled}
-use Rattle.printing.proofs.Fields.{fill_start, fill_again, fill_end}
 use Rattle.printing.proofs.put.fill.Given as goal
 
 abbrev pub invariant-loop-i : goal.invariant-loop-i

@@ -13,7 +13,7 @@ use Rattle.bch.proofs.codes.Entries.{below_take, below_drop}
 use Rattle.chase.specs.Soft.{soft_stage}
 use Rattle.chase.specs.Word.{Symbols}
 use Rattle.take_format.specs.Batch.{message, mark_byte, counted_of}
-use Rattle.take_format.proofs.takes.Batches.{words_small, Few, few_more, few_capped, Done, done_start, done_more, done_end}
+use Rattle.take_format.proofs.takes.Batches.{words_small, Few, few_more, few_capped, done_start, done_more, done_end}
 use Rattle.take_format.proofs.takes.PromiseLaws.{message_long, tries_most}
 use Rattle.refusal.specs.Named.{code_of}
 use Rattle.receiver.specs.Answer.{totals_told}
@@ -78,12 +78,6 @@ next_word : (w W : ℕ) → w < W → w + 1 ≤ W
 next_word w W h = omega arith
 
 -- at the loop's test, where word w is there
-
--- ?? same_length : tie.Need-same-length invariant-loop decreases-loop
--- ?? same_length c = c.before.loop.invariant.3
-
--- ?? same-length-2 : tie.Need-same-length-2 invariant-loop decreases-loop
--- ?? same-length-2 c = c.before.loop.invariant.4
 
 pub loop-w-init : goal.loop-w-init
 loop-w-init c =

@@ -1,5 +1,4 @@
 -- What is located for the syndromes of the bits is where they are flipped. Assumes nothing.
--- what is added up are the syndromes of the bits
 use native.Mathlib.Omega.{arith}
 use mathlib.Core.Path.{◌≡◌, ap, ◌∙◌}
 use Rattle.bch.proofs.logarithms.LogAnswers.{syndromes_of, syndromes_in}

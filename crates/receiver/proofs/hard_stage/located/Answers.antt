@@ -1,5 +1,4 @@
 -- At most one error needs no roots. Assumes nothing.
--- one number that is syndromes, as a list
 use Prim.Native.Nat.{ℕ, ◌%◌, ◌<◌}
 use native.Mathlib.Omega.{arith}
 use mathlib.Core.Path.{◌≡◌, ap, sym, ◌∙◌, subst}

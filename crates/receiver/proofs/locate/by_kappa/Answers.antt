@@ -1,5 +1,4 @@
 -- k, its two roots and the scale as the logarithms say; each sum of exponents is below eight periods. Assumes nothing.
--- ---- sums of exponents, for a period p and logarithms d and e below it
 use Prim.Native.Nat.{ℕ, ◌+◌, ◌-◌, ◌*◌, ◌/◌, ◌%◌, ◌^◌, ◌≤◌, ◌<◌}
 use mathlib.Core.Path.{◌≡◌, refl, ap, sym, subst}
 use native.Mathlib.Omega.{arith}

@@ -4,14 +4,12 @@ use native.Mathlib.Nat.{pow-succ'}
 use native.Mathlib.Numerals.{add-one}
 use native.Mathlib.Omega.{arith}
 use mathlib.Core.Path.{◌≡◌, refl, ap, sym, subst, ◌∙◌}
-use mathlib.Core.Bool.{false}
 use mathlib.Core.List.{List}
 use lib.ListN.{length, get_or, replicate}
 use lib.Seq.{length-take-le}
 use Rattle.chase.proofs.test_words.Doublings.{Doubled, Holds, size_most}
 use Rattle.chase.proofs.search.Ready.{packed_test, flipped_more, key_below, tests_first, tests_next, tests_small}
 use Rattle.refusal.specs.Named.{code_of}
-use Rattle.receiver.specs.Search.{Tried}
 use Rattle.receiver.proofs.Turns.{test_words}
 use mir.Syntax.{w64}
 use mir.Val.{Fits}

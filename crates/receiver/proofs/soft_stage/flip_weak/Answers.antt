@@ -1,15 +1,14 @@
 -- What is left of j, over the weak positions left, makes of the bits what j makes of them over all. Assumes nothing.
--- each weak position is one of the word's
-use Prim.Native.Nat.{ℕ, ◌-◌, ◌%◌, ◌≤◌, ◌<◌}
+use Prim.Native.Nat.{ℕ, ◌%◌, ◌≤◌, ◌<◌}
 use native.Mathlib.Omega.{arith}
-use mathlib.Core.Path.{◌≡◌, refl, ap, sym, ◌∙◌}
+use mathlib.Core.Path.{refl, ap, sym, ◌∙◌}
 use mathlib.Core.List.{List}
-use lib.ListN.{length, get_or, drop}
-use Rattle.bch.specs.Words.{Bits, Distinct}
+use lib.ListN.{length, get_or}
+use Rattle.bch.specs.Words.{Distinct}
 use Rattle.bch.proofs.codes.Behind.{flipped_from, length_from, bits_from}
 use Rattle.bch.proofs.codes.Flipped.{distinct_at}
 use Rattle.chase.proofs.search.Ready.{places_of, long_places, at_places}
-use Rattle.chase.proofs.test_words.TestWords.{chosen, chosen_next, chosen_past, chosen_over}
+use Rattle.chase.proofs.test_words.TestWords.{chosen_next, chosen_past, chosen_over}
 use Rattle.receiver.proofs.soft_stage.flip_weak.Goals as goal
 use Rattle.receiver.proofs.soft_stage.flip_weak.Goals.{then-r-eq1, else-r-eq1}
 
@@ -49,14 +48,14 @@ loop-k-preserved c =
     let h : l.k < length ws = omega (arith, long_places ks p (omega arith)) in
     let flipped : List ℕ → List ℕ = λ P. flipped_from from P l.out in
     elim c.if-r-eq1.branch [
-      then-r-eq1 w ↦ rw (w.out-is, w.flip.ensures) (
+      | then-r-eq1 w ↦ rw (w.out-is, w.flip.ensures) (
         omega arith,
         length_from from w.place_of.result l.out ∙ l.invariant.1,
         bits_from from w.place_of.result l.out l.invariant.2,
         rw (w.place_of.ensures, ← at_places ks p l.k (omega arith))
             (sym (ap flipped (chosen_next l.r l.k ws h w.if-r-eq1.true)) ∙ l.invariant.3),
       )
-    | else-r-eq1 w ↦ rw w.out-is (
+      | else-r-eq1 w ↦ rw w.out-is (
         omega arith,
         l.invariant.1,
         l.invariant.2,

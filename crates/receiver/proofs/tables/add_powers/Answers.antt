@@ -1,7 +1,7 @@
 -- Below i the powers hold what is added, from i on what they held; e is d i less whole periods. Assumes nothing.
 use Prim.Native.Nat.{ℕ, ◌+◌, ◌-◌, ◌*◌, ◌%◌, ◌^◌, ◌≤◌, ◌<◌, min}
 use mathlib.Core.Path.{◌≡◌, refl, ap, subst, sym, ◌∙◌}
-use mathlib.Core.Logic.{◌⊎◌, inl, inr}
+use mathlib.Core.Logic.{inl, inr}
 use native.Mathlib.Nat.{mul-le-mul, le_refl}
 use native.Mathlib.Omega.{arith}
 use lib.ListN.{length, get_or, set, length-set}
@@ -10,7 +10,7 @@ use mir.Val.{Fits}
 use Rattle.galois.specs.Field.{alpha}
 use Rattle.galois.proofs.Primitive.{Primitive, primitive_5_10}
 use Rattle.bch.proofs.tables.TableFills.{FieldPart, stage, stage_low, mixed, mixed_none, mixed_here, mixed_more, mixed_all}
-use Rattle.bch.proofs.tables.TableLoops.{Turn, TurnIn, turn_none, turn_in, turn_inside, turn_more, turn_out, turn_power}
+use Rattle.bch.proofs.tables.TableLoops.{Turn, turn_none, turn_in, turn_inside, turn_more, turn_out, turn_power}
 use Rattle.receiver.proofs.Places.{near, power_at, power_fits, power_scaled, step_fits, falls, goes_on, wrapped, ended, fell}
 use Rattle.receiver.proofs.tables.add_powers.Goals as goal
 
@@ -38,9 +38,6 @@ stages : (t : ℕ) → 1 ≤ t → t ≤ 2 → (t ≤ 3) × (1 ≤ t + 1) × (t 
 stages t l u = (omega arith, omega arith, omega arith)
 
 -- ---- at the inner loop's test, in the period: i is below it too
-
--- ?? same_length : tie.Need-same-length invariant-loop2 decreases-loop2 invariant-loop decreases-loop
--- ?? same_length c = c.before.loop.invariant.2
 
 pub returns-then-c-t : goal.returns-then-c-t
 returns-then-c-t c =

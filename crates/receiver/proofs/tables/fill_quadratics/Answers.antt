@@ -3,12 +3,12 @@ use Prim.Native.Nat.{ℕ, ◌+◌, ◌-◌, ◌*◌, ◌%◌, ◌^◌, ◌≤◌
 use native.Mathlib.Omega.{arith}
 use mathlib.Core.Path.{◌≡◌, refl, ap, ap₂, sym, subst, subst₂, ◌∙◌}
 use mathlib.Core.Logic.{◌≢◌}
-use lib.ListN.{length, get_or, length-set}
+use lib.ListN.{get_or, length-set}
 use Rattle.galois.proofs.Primitive.{Primitive, primitive_5_10}
 use Rattle.galois.proofs.FieldTables.{even_size}
-use Rattle.bch.proofs.tables.CodeTables.{PairRoots, roots_in, reduced}
+use Rattle.bch.proofs.tables.CodeTables.{reduced}
 use Rattle.bch.proofs.tables.RootFills.{even_end, pairs_none}
-use Rattle.bch.proofs.tables.TableLoops.{FieldFilled, filled_log_lt, pairs_step}
+use Rattle.bch.proofs.tables.TableLoops.{filled_log_lt, pairs_step}
 use mir.Syntax.{w32, w64}
 use mir.Val.{Fits}
 use Rattle.receiver.proofs.Places.{near, root_at, root_fits, root_scaled}
@@ -49,9 +49,6 @@ next-lt : (s w : ℕ) → w < s - 1 → (w < s) × (w + 1 < s)
 next-lt s w h = (omega arith, omega arith)
 
 -- ---- the logarithms of w and w + 1
-
--- ?? same_length : tie.Need-same-length invariant-loop decreases-loop
--- ?? same_length c = c.before.loop.invariant.3
 
 pub returns-then-c-ne2 : goal.returns-then-c-ne2
 returns-then-c-ne2 c = record { field = c.requires.1; pairs = λ z. absurd (c.if-c-ne2.true z); none = λ n. c.requires.2 }

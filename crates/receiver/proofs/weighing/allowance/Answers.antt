@@ -1,7 +1,7 @@
 -- What is left of the sum, with what is added already, is the whole sum. Assumes nothing.
-use Prim.Native.Nat.{ℕ, ◌+◌, ◌-◌, ◌*◌, ◌/◌, ◌%◌, ◌≤◌, ◌<◌}
+use Prim.Native.Nat.{ℕ, ◌+◌, ◌-◌, ◌/◌, ◌%◌, ◌≤◌, ◌<◌}
 use native.Mathlib.Omega.{arith}
-use mathlib.Core.Path.{◌≡◌, refl, ap, sym, ◌∙◌}
+use mathlib.Core.Path.{◌≡◌, ap, sym, ◌∙◌}
 use mathlib.Core.Bool.{true, false}
 use mathlib.Core.List.{List, ◌++◌}
 use lib.Dec.{eqb}
@@ -62,14 +62,14 @@ loop-k-preserved c =
     let key = c.key_at-key in
     let e = rw c.place_of.ensures at c.turns.ensures in
     elim c.if-not-turns.branch [
-      then-not-turns w ↦ (
+      | then-not-turns w ↦ (
         omega arith,
         omega (arith, w.held-sum.ensures.1, w.sum-is),
         rw (w.sum-is, w.full-is)
             (added (flips_of a.f) ks a.d l.r l.full l.k l.sum _ key.result room more short key.ensures l.invariant.2 w.held-sum.result
             w.held-sum.ensures.0 (sym e ∙ w.if-not-turns.true)),
       )
-    | else-not-turns w ↦ (
+      | else-not-turns w ↦ (
         omega arith,
         omega (arith, w.sum-is),
         rw (w.sum-is, w.full-is)

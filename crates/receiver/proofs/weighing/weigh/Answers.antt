@@ -88,8 +88,8 @@ loop-a-preserved c =
     c.z_at-z.result c.requires.count_bound.2 (omega arith) (omega arith) (rw x at c.z_at-z.ensures.0) l.invariant.1
     (rw x at (sym h ∙ c.flipped.ensures)) in
     elim c.if-flipped.branch [
-      then-flipped w ↦ rw (w.q-is, w.sum-is) (omega arith, (back w.if-flipped.true).2)
-    | else-flipped w ↦ rw (w.q-is, w.sum-is) (omega arith, out w.if-flipped.false)
+      | then-flipped w ↦ rw (w.q-is, w.sum-is) (omega arith, (back w.if-flipped.true).2)
+      | else-flipped w ↦ rw (w.q-is, w.sum-is) (omega arith, out w.if-flipped.false)
     ]
 
 pub returns : goal.returns
