@@ -7,14 +7,12 @@ pub fn find(text: &[u8], from: usize, mark: u8) -> usize
     ensures lower_bound { from ≤ result }
     ensures upper_bound { result ≤ length text.now }
 {
-    let mut i = from;
-    while i < text.len() {
+    for i in from..text.len() {
         if text[i] == mark {
             return i;
         }
-        i += 1;
     }
-    i
+    text.len()
 }
 
 // The position after `i`, or the text's end.
@@ -30,29 +28,16 @@ fn after(text: &[u8], i: usize) -> usize
 // The word of the line before which `index` others stand, or nothing where the line has fewer.
 pub fn word<'a>(line: &'a [u8], index: usize) -> &'a [u8] {
     let mut start = 0;
-    let mut end = find(line, 0, b' ');
-    let mut passed = 0;
-    while passed < index {
-        start = after(line, end);
-        end = find(line, start, b' ');
-        passed += 1;
+    for _ in 0..index {
+        start = after(line, find(line, start, b' '));
     }
+    let end = find(line, start, b' ');
     &line[start..end]
 }
 
 // Whether the two are equal.
 pub fn is(one: &[u8], other: &[u8]) -> bool {
-    if one.len() != other.len() {
-        return false;
-    }
-    let mut i = 0;
-    while i < one.len() {
-        if one[i] != other[i] {
-            return false;
-        }
-        i += 1;
-    }
-    true
+    one == other
 }
 
 // The value of a hex digit.
@@ -86,10 +71,8 @@ fn with_digit(value: usize, next: usize) -> usize {
 // The number that decimal digits give, modulo 2^64.
 fn decimal(digits: &[u8]) -> usize {
     let mut value = 0;
-    let mut i = 0;
-    while i < digits.len() {
-        value = with_digit(value, digit(digits[i]) as usize);
-        i += 1;
+    for byte in digits {
+        value = with_digit(value, digit(*byte) as usize);
     }
     value
 }
@@ -147,10 +130,8 @@ pub fn bytes(line: &[u8], index: usize, out: &mut [u8]) -> usize
 {
     let text = word(line, index);
     let count = least(text.len() / 2, out.len());
-    let mut i = 0;
-    while i < count {
+    for i in 0..count {
         out[i] = byte_at(text, 2 * i);
-        i += 1;
     }
     count
 }
@@ -202,10 +183,8 @@ pub fn floats(line: &[u8], index: usize, out: &mut [f32]) -> usize
 {
     let text = word(line, index);
     let count = least(text.len() / 8, out.len());
-    let mut i = 0;
-    while i < count {
+    for i in 0..count {
         out[i] = float_at(text, 8 * i);
-        i += 1;
     }
     count
 }

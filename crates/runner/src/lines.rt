@@ -1,8 +1,9 @@
 // The input line by line.
-ghost use Rattle.std.specs.Prelude.{◌+◌, ◌<◌, ◌≤◌, length};
+ghost use Rattle.std.specs.Prelude.{◌+◌, ◌<◌, ◌≤◌, length, IfOk};
 
 use crate::{fields, print, samples, take_calls, weights, word_calls};
 use receiver::Totals;
+use std::io::{self, Read, Write};
 
 // How often the buffer is filled at most, so that the program ends whatever it reads.
 const FILLS: usize = 1000000;
@@ -26,68 +27,56 @@ fn none() -> Totals {
 }
 
 // A record of a take's calls, or of none that is known.
-fn run_take(kind: &[u8], line: &[u8]) {
+fn run_take(out: &mut impl Write, kind: &[u8], line: &[u8]) -> io::Result<()> {
     if fields::is(kind, b"open") {
-        take_calls::open(line);
-        return;
+        return take_calls::open(out, line);
     }
     if fields::is(kind, b"word") {
-        take_calls::word(line);
-        return;
+        return take_calls::word(out, line);
     }
     if fields::is(kind, b"take") {
-        take_calls::read(line);
-        return;
+        return take_calls::read(out, line);
     }
     if fields::is(kind, b"list") {
-        take_calls::list(line);
-        return;
+        return take_calls::list(out, line);
     }
     if fields::is(kind, b"print") {
-        take_calls::lay(line);
-        return;
+        return take_calls::lay(out, line);
     }
     if fields::is(kind, b"length") {
-        take_calls::strip_length(line);
-        return;
+        return take_calls::strip_length(out, line);
     }
     if fields::is(kind, b"strip") {
-        take_calls::strip(line);
-        return;
+        return take_calls::strip(out, line);
     }
-    print::text(b"unknown\n");
+    print::text(out, b"unknown\n")
 }
 
 // A record of the encoder, the hard stage or the quantiser, or one of those further on.
-fn run_other(kind: &[u8], line: &[u8]) {
+fn run_other(out: &mut impl Write, kind: &[u8], line: &[u8]) -> io::Result<()> {
     if fields::is(kind, b"encode") {
-        word_calls::encode(line);
-        return;
+        return word_calls::encode(out, line);
     }
     if fields::is(kind, b"hard") {
-        word_calls::hard(line);
-        return;
+        return word_calls::hard(out, line);
     }
     if fields::is(kind, b"ladder") {
-        samples::ladder(line);
-        return;
+        return samples::ladder(out, line);
     }
     if fields::is(kind, b"quantise") {
-        samples::quantise(line);
-        return;
+        return samples::quantise(out, line);
     }
     if fields::is(kind, b"weights") {
-        weights::weights(line);
-        return;
+        return weights::weights(out, line);
     }
-    run_take(kind, line);
+    run_take(out, kind, line)
 }
 
 // Prints the totals.
-fn print_totals(totals: Totals) {
-    print::text(b"totals");
-    print::totals(totals);
-    print::end();
+fn print_totals(out: &mut impl Write, totals: Totals) -> io::Result<()> {
+    print::text(out, b"totals")?;
+    print::totals(out, totals)?;
+    print::end(out)
 }
 
 // Whether the line is a heading.
@@ -99,76 +88,91 @@ fn is_heading(line: &[u8]) -> bool {
 }
 
 // Runs one record, and answers the totals then.
-fn run(line: &[u8], totals: Totals) -> Totals {
+fn run(out: &mut impl Write, line: &[u8], totals: Totals) -> io::Result<Totals> {
     if is_heading(line) {
-        print::text(line);
-        print::end();
-        return totals;
+        print::text(out, line)?;
+        print::end(out)?;
+        return Ok(totals);
     }
     let kind = fields::word(line, 0);
     if fields::is(kind, b"soft") {
-        return word_calls::soft(line, totals);
+        return word_calls::soft(out, line, totals);
     }
     if fields::is(kind, b"totals") {
-        print_totals(totals);
-        return none();
+        print_totals(out, totals)?;
+        return Ok(none());
     }
-    run_other(kind, line);
-    totals
+    run_other(out, kind, line)?;
+    Ok(totals)
 }
 
 // Runs each line that ends within the first `have` bytes of the buffer, and answers where the next one begins.
-fn run_lines(buffer: &[u8], have: usize, before: Totals) -> Progress
+fn run_lines(
+    out: &mut impl Write,
+    buffer: &[u8],
+    have: usize,
+    before: Totals,
+) -> io::Result<Progress>
     requires { have ≤ length buffer.now }
-    ensures { result.at ≤ have }
+    ensures { IfOk result (λ p. p.at ≤ have) }
 {
     let mut totals = before;
     let mut at = 0;
     let mut end = fields::find(buffer, 0, b'\n');
     while end < have {
-        totals = run(&buffer[at..end], totals);
+        totals = run(out, &buffer[at..end], totals)?;
         at = end + 1;
         end = fields::find(buffer, at, b'\n');
     }
-    Progress {
+    Ok(Progress {
         at: at,
         totals: totals,
-    }
+    })
 }
 
 // Moves what stands from `from` up to `end` to the buffer's start.
 fn move_down(buffer: &mut [u8], from: usize, end: usize)
     requires { (from ≤ end) × (end ≤ length buffer.old) }
 {
-    let mut i = from;
-    while i < end {
-        buffer[i - from] = buffer[i];
-        i += 1;
+    buffer.copy_within(from..end, 0);
+}
+
+// Reads until the buffer is full or the input ends, and answers how many bytes that are.
+fn read_full(input: &mut impl Read, buffer: &mut [u8]) -> io::Result<usize>
+    ensures { IfOk result (λ count. count ≤ length buffer.new) }
+{
+    let mut done = 0;
+    while done < buffer.len() {
+        let count = input.read(&mut buffer[done..])?;
+        if count == 0 {
+            return Ok(done);
+        }
+        done += count;
     }
+    Ok(done)
 }
 
 // Reads on behind the first `kept` bytes, and answers how many bytes the buffer then holds.
-fn fill(buffer: &mut [u8], kept: usize) -> usize
+fn fill(input: &mut impl Read, buffer: &mut [u8], kept: usize) -> io::Result<usize>
     requires { kept ≤ length buffer.old }
-    ensures { (kept ≤ result) × (result ≤ length buffer.new) }
+    ensures { IfOk result (λ have. (kept ≤ have) × (have ≤ length buffer.new)) }
 {
-    kept + io::read_full(libc::STDIN_FILENO, &mut buffer[kept..])
+    Ok(kept + read_full(input, &mut buffer[kept..])?)
 }
 
 // Runs all records, with a buffer that has room for the longest line. A last line that does not end is not run.
-pub fn run_all(buffer: &mut [u8]) {
+pub fn run_all(input: &mut impl Read, out: &mut impl Write, buffer: &mut [u8]) -> io::Result<()> {
     let mut totals = none();
     let mut kept = 0;
-    let mut fills = 0;
-    while fills < FILLS {
-        let have = fill(buffer, kept);
+    for _ in 0..FILLS {
+        let have = fill(input, buffer, kept)?;
         if have == kept {
-            return;
+            return Ok(());
         }
-        let progress = run_lines(buffer, have, totals);
+        let progress = run_lines(out, buffer, have, totals)?;
         totals = progress.totals;
         move_down(buffer, progress.at, have);
         kept = have - progress.at;
-        fills += 1;
     }
+    Ok(())
 }

@@ -22,6 +22,7 @@
 // stand the buffers, also behind a refusal. A line that begins with # is printed as it stands, and of another kind of line is said that it is
 // unknown. What is no digit counts as 0; what has no room in the program's own arrays is cut, and the answer then shows it.
 #![tactic(auto)]
+
 mod fields;
 mod lines;
 mod print;
@@ -30,7 +31,11 @@ mod take_calls;
 mod weights;
 mod word_calls;
 
-fn main() {
+use std::io::{self, BufWriter, Write};
+
+fn main(rt: HostRuntime) -> io::Result<()> {
     let mut buffer = [0u8; 200000];
-    lines::run_all(&mut buffer);
+    let mut out = BufWriter::new(rt.alloc(), io::writer(&rt))?;
+    lines::run_all(&mut rt.reader(), &mut out, &mut buffer)?;
+    out.flush()
 }

@@ -2,6 +2,7 @@
 use crate::{fields, print};
 use quantiser::{Ladder, Made};
 use refusal::Check;
+use std::io::{self, Write};
 
 // The most edges that a record may have.
 const EDGES: usize = 64;
@@ -17,29 +18,25 @@ fn make(line: &[u8]) -> Made {
 }
 
 // The record `ladder EDGES`.
-pub fn ladder(line: &[u8]) {
+pub fn ladder(out: &mut impl Write, line: &[u8]) -> io::Result<()> {
     match make(line) {
-        Made::Refused(r) => {
-            print::refused(r);
-        }
-        Made::Accepted(_) => {
-            print::text(b"ladder");
-        }
-    }
-    print::end();
+        Made::Refused(r) => print::refused(out, r),
+        Made::Accepted(_) => print::text(out, b"ladder"),
+    }?;
+    print::end(out)
 }
 
 // The record `quantise EDGES KINDS LEVELS ROOM`.
-pub fn quantise(line: &[u8]) {
+pub fn quantise(out: &mut impl Write, line: &[u8]) -> io::Result<()> {
     let mut symbols = [7u8; SAMPLES];
     let room = fields::room(line, 4, SAMPLES);
-    quantise_to(line, &mut symbols[..room]);
+    quantise_to(out, line, &mut symbols[..room])
 }
 
 // Quantises into the buffer, and prints the answer.
-fn quantise_to(line: &[u8], symbols: &mut [u8]) {
-    answer(quantised(line, symbols));
-    print::last(symbols);
+fn quantise_to(out: &mut impl Write, line: &[u8], symbols: &mut [u8]) -> io::Result<()> {
+    answer(out, quantised(line, symbols))?;
+    print::last(out, symbols)
 }
 
 // Makes the ladder and quantises by it.
@@ -65,13 +62,9 @@ fn quantise_by(line: &[u8], ladder: Ladder, symbols: &mut [u8]) -> Check {
 }
 
 // Prints the quantiser's answer.
-fn answer(check: Check) {
+fn answer(out: &mut impl Write, check: Check) -> io::Result<()> {
     match check {
-        Check::Refused(r) => {
-            print::refused(r);
-        }
-        Check::Passed => {
-            print::text(b"written");
-        }
+        Check::Refused(r) => print::refused(out, r),
+        Check::Passed => print::text(out, b"written"),
     }
 }

@@ -4,6 +4,7 @@ ghost use Rattle.std.specs.Prelude.{◌≡◌, length};
 use crate::{fields, print};
 use printing::Length;
 use receiver::{Soft, Words};
+use std::io::{self, Write};
 use takes::{Header, Opening};
 
 // The longest take that a record may have, and the longest of its buffers: a take that is too long for takelist has 65,537 bytes.
@@ -30,43 +31,40 @@ fn sevens() -> [u8; TAKE]
 }
 
 // Prints a header.
-fn header(h: Header) {
-    print::text(b"opened");
-    print::number(h.words as usize);
-    print::number(h.m as usize);
-    print::number(h.t as usize);
-    print::number(h.n as usize);
-    print::number(h.depth as usize);
-    print::number(h.offset as usize);
-    print::number(h.label as usize);
+fn header(out: &mut impl Write, h: Header) -> io::Result<()> {
+    print::text(out, b"opened")?;
+    print::number(out, h.words as usize)?;
+    print::number(out, h.m as usize)?;
+    print::number(out, h.t as usize)?;
+    print::number(out, h.n as usize)?;
+    print::number(out, h.depth as usize)?;
+    print::number(out, h.offset as usize)?;
+    print::number(out, h.label as usize)
 }
 
 // The record `open TAKE`.
-pub fn open(line: &[u8]) {
+pub fn open(out: &mut impl Write, line: &[u8]) -> io::Result<()> {
     let mut take = room();
     let length = fields::bytes(line, 1, &mut take);
     match takes::open_take(&take[..length]) {
-        Opening::Refused(r) => {
-            print::refused(r);
-        }
-        Opening::Opened(h) => {
-            header(h);
-        }
-    }
-    print::end();
+        Opening::Refused(r) => print::refused(out, r),
+        Opening::Opened(h) => header(out, h),
+    }?;
+    print::end(out)
 }
 
 // The record `word TAKE INDEX ROOM`.
-pub fn word(line: &[u8]) {
+pub fn word(out: &mut impl Write, line: &[u8]) -> io::Result<()> {
     let mut take = room();
     let mut codeword = [7u8; WORD];
     let length = fields::bytes(line, 1, &mut take);
     let room = fields::room(line, 3, WORD);
     word_to(
+        out,
         &take[..length],
         fields::number(line, 2),
         &mut codeword[..room],
-    );
+    )
 }
 
 // Opens a take and decodes one of its words into the buffer.
@@ -78,13 +76,13 @@ fn decode(take: &[u8], index: usize, codeword: &mut [u8]) -> Soft {
 }
 
 // Prints the answer for one word of a take.
-fn word_to(take: &[u8], index: usize, codeword: &mut [u8]) {
-    print::soft(decode(take, index, codeword));
-    print::last(codeword);
+fn word_to(out: &mut impl Write, take: &[u8], index: usize, codeword: &mut [u8]) -> io::Result<()> {
+    print::soft(out, decode(take, index, codeword))?;
+    print::last(out, codeword)
 }
 
 // The record `take TAKE MESSAGES MARKS`.
-pub fn read(line: &[u8]) {
+pub fn read(out: &mut impl Write, line: &[u8]) -> io::Result<()> {
     let mut take = room();
     let mut messages = sevens();
     let mut marks = sevens();
@@ -92,90 +90,90 @@ pub fn read(line: &[u8]) {
     let message_room = fields::room(line, 2, TAKE);
     let mark_room = fields::room(line, 3, TAKE);
     read_to(
+        out,
         &take[..length],
         &mut messages[..message_room],
         &mut marks[..mark_room],
-    );
+    )
 }
 
 // Reads a take into the buffers, and prints the answer.
-fn read_to(take: &[u8], messages: &mut [u8], marks: &mut [u8]) {
+fn read_to(
+    out: &mut impl Write,
+    take: &[u8],
+    messages: &mut [u8],
+    marks: &mut [u8],
+) -> io::Result<()> {
     match takes::read_take(take, messages, marks) {
-        Words::Refused(r) => {
-            print::refused(r);
-        }
+        Words::Refused(r) => print::refused(out, r),
         Words::Decoded(totals) => {
-            print::text(b"read");
-            print::totals(totals);
+            print::text(out, b"read")?;
+            print::totals(out, totals)
         }
-    }
-    print::buffer(messages);
-    print::last(marks);
+    }?;
+    print::buffer(out, messages)?;
+    print::last(out, marks)
 }
 
 // The record `list TAKE`.
-pub fn list(line: &[u8]) {
+pub fn list(out: &mut impl Write, line: &[u8]) -> io::Result<()> {
     let mut take = room();
     let length = fields::bytes(line, 1, &mut take);
-    print_listing(&take[..length]);
+    print_listing(out, &take[..length])
 }
 
 // Prints what takelist prints for a take.
-fn print_listing(take: &[u8]) {
+fn print_listing(out: &mut impl Write, take: &[u8]) -> io::Result<()> {
     let mut output = [0u8; 900000];
     let length = listing::list(take, &mut output);
-    print::text(&output[..length]);
+    print::text(out, &output[..length])
 }
 
 // The record `length TAKE`.
-pub fn strip_length(line: &[u8]) {
+pub fn strip_length(out: &mut impl Write, line: &[u8]) -> io::Result<()> {
     let mut take = room();
     let length = fields::bytes(line, 1, &mut take);
     match printing::strip_length(&take[..length]) {
-        Length::Refused(r) => {
-            print::refused(r);
-        }
+        Length::Refused(r) => print::refused(out, r),
         Length::Bytes(bytes) => {
-            print::text(b"length");
-            print::number(bytes);
+            print::text(out, b"length")?;
+            print::number(out, bytes)
         }
-    }
-    print::end();
+    }?;
+    print::end(out)
 }
 
 // The record `print TAKE ROOM`.
-pub fn lay(line: &[u8]) {
+pub fn lay(out: &mut impl Write, line: &[u8]) -> io::Result<()> {
     let mut take = room();
     let mut strip = [7u8; STRIP];
     let length = fields::bytes(line, 1, &mut take);
     let room = fields::room(line, 2, STRIP);
-    lay_to(&take[..length], &mut strip[..room]);
+    lay_to(out, &take[..length], &mut strip[..room])
 }
 
 // Prints a take into the buffer, and prints the answer.
-fn lay_to(take: &[u8], strip: &mut [u8]) {
+fn lay_to(out: &mut impl Write, take: &[u8], strip: &mut [u8]) -> io::Result<()> {
     match printing::print_take(take, strip) {
-        Words::Refused(r) => {
-            print::refused(r);
-        }
+        Words::Refused(r) => print::refused(out, r),
         Words::Decoded(totals) => {
-            print::text(b"printed");
-            print::totals(totals);
+            print::text(out, b"printed")?;
+            print::totals(out, totals)
         }
-    }
-    print::last(strip);
+    }?;
+    print::last(out, strip)
 }
 
 // The record `strip TAKE`.
-pub fn strip(line: &[u8]) {
+pub fn strip(out: &mut impl Write, line: &[u8]) -> io::Result<()> {
     let mut take = room();
     let length = fields::bytes(line, 1, &mut take);
-    print_strip(&take[..length]);
+    print_strip(out, &take[..length])
 }
 
 // Prints what strip prints for a take.
-fn print_strip(take: &[u8]) {
+fn print_strip(out: &mut impl Write, take: &[u8]) -> io::Result<()> {
     let mut output = [0u8; 900000];
     let length = printing::print(take, &mut output);
-    print::text(&output[..length]);
+    print::text(out, &output[..length])
 }

@@ -4,6 +4,7 @@ ghost use Rattle.std.specs.Prelude.{◌≤◌, length};
 use crate::{fields, print};
 use encoder::Encoded;
 use refusal::{Code, Named};
+use std::io::{self, Write};
 
 // The longest codeword, and one more.
 const ROOM: usize = 256;
@@ -14,23 +15,19 @@ const MOST: usize = 24;
 // Makes the message whose bit i is bit i of the number.
 fn spread(number: usize, message: &mut [u8]) {
     let mut rest = number;
-    let mut i = 0;
-    while i < message.len() {
-        message[i] = (rest % 2) as u8;
+    for bit in message.iter_mut() {
+        *bit = (rest % 2) as u8;
         rest = rest / 2;
-        i += 1;
     }
 }
 
 // How many positions of the codeword are not 0.
 fn weight(codeword: &[u8]) -> usize {
     let mut sum = 0;
-    let mut i = 0;
-    while i < codeword.len() {
-        if codeword[i] != 0 {
+    for bit in codeword {
+        if *bit != 0 {
             sum += 1;
         }
-        i += 1;
     }
     sum
 }
@@ -56,10 +53,8 @@ fn count_message(c: Code, message: &[u8], codeword: &mut [u8], counts: &mut [usi
 // How many messages of so many bits there are.
 fn messages(bits: usize) -> usize {
     let mut sum: usize = 1;
-    let mut i = 0;
-    while i < bits {
-        sum = std::num::wrapping_add_usize(sum, sum);
-        i += 1;
+    for _ in 0..bits {
+        sum = sum.wrapping_add(sum);
     }
     sum
 }
@@ -67,55 +62,46 @@ fn messages(bits: usize) -> usize {
 // Counts the codewords of all messages.
 fn count_all(c: Code, message: &mut [u8], codeword: &mut [u8], counts: &mut [usize]) {
     let most = messages(message.len());
-    let mut number = 0;
-    while number < most {
+    for number in 0..most {
         spread(number, message);
         count_message(c, message, codeword, counts);
-        number += 1;
     }
 }
 
 // Prints each weight that occurs.
-fn print_counts(counts: &[usize]) {
-    print::text(b"weights");
-    let mut at = 0;
-    while at < counts.len() {
+fn print_counts(out: &mut impl Write, counts: &[usize]) -> io::Result<()> {
+    print::text(out, b"weights")?;
+    for at in 0..counts.len() {
         if 0 < counts[at] {
-            print::pair(at, counts[at]);
+            print::pair(out, at, counts[at])?;
         }
-        at += 1;
     }
+    Ok(())
 }
 
 // Prints the weights of a code.
-fn print_weights(c: Code) {
+fn print_weights(out: &mut impl Write, c: Code) -> io::Result<()> {
     let k = c.message_length();
     let n = c.length();
     if MOST < k {
-        print::text(b"too many messages");
-        return;
+        return print::text(out, b"too many messages");
     }
     if ROOM < n {
-        print::text(b"too long");
-        return;
+        return print::text(out, b"too long");
     }
     let mut message = [0u8; MOST];
     let mut codeword = [0u8; ROOM];
     let mut counts = [0usize; ROOM];
     count_all(c, &mut message[..k], &mut codeword[..n], &mut counts);
-    print_counts(&counts);
+    print_counts(out, &counts)
 }
 
 // The record `weights M T N`.
-pub fn weights(line: &[u8]) {
+pub fn weights(out: &mut impl Write, line: &[u8]) -> io::Result<()> {
     let code = fields::settings(line);
     match refusal::settings(code.m, code.t, code.n) {
-        Named::Refused(r) => {
-            print::refused(r);
-        }
-        Named::Code(c) => {
-            print_weights(c);
-        }
-    }
-    print::end();
+        Named::Refused(r) => print::refused(out, r),
+        Named::Code(c) => print_weights(out, c),
+    }?;
+    print::end(out)
 }

@@ -3,12 +3,13 @@
 // All that is printed is the text that `printing::print` writes. One byte more is read than the program accepts, so that longer input is told
 // apart.
 #![tactic(auto)]
-use libc::{STDIN_FILENO, STDOUT_FILENO};
 
-fn main() {
-    let mut input = [0u8; 65537];
+use std::io::{self, Read};
+
+fn main(rt: HostRuntime) -> io::Result<()> {
+    let mut input = Vec::new(rt.alloc());
+    rt.reader().take(65537).read_to_end(&mut input)?;
     let mut text = [0u8; 900000];
-    let got = io::read_full(STDIN_FILENO, &mut input);
-    let length = printing::print(&input[..got], &mut text);
-    io::write_all(STDOUT_FILENO, &text[..length]);
+    let length = printing::print(input.as_slice(), &mut text);
+    rt.write_all(&text[..length])
 }
