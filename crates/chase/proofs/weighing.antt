@@ -2,3 +2,4 @@
 pub mod Weighing
 pub mod Weights
 pub mod Sizes
+pub mod Bounded

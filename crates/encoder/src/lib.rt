@@ -5,6 +5,7 @@
 //         encoder::Encoded::Refused(r) => { .. }      // r.number, r.place: the buffer is as it was
 //     }
 #![tactic(auto)]
+
 ghost use Rattle.std.specs.Prelude.{◌≡◌};
 ghost use Rattle.bch.specs.Code.{code};
 ghost use Rattle.take_format.specs.Refusal.{encode_refusal};

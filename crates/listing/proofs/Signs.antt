@@ -23,7 +23,7 @@ wide z = to_z w64 (of_z w64 (to_z w32 (of_z w32 z)))
 
 -- .. which is itself
 wide_is : (z : ℤ) → SFits w32 z → wide z ≡ z
-wide_is z f = ap (λ (x : ℤ). to_z w64 (of_z w64 x)) (to_z-of_z f) ∙ to_z-of_z (sfits_widen tt f)
+wide_is z f = ap (λ (x : ℤ). to_z w64 (of_z w64 x)) (to_z-of_z f) ∙ to_z-of_z {w = w64} (sfits_widen {w = w32} {w' = w64} tt f)
 
 -- 0 less it, as it is read back
 abbrev pub turned : ℤ → ℤ

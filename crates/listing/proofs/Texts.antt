@@ -5,7 +5,7 @@ use native.Mathlib.Omega.{arith}
 use native.Mathlib.Numerals.{add-one}
 use mathlib.Core.Path.{◌≡◌, refl, ap, ap₂, sym, subst, ◌∙◌}
 use mathlib.Core.List.{List, [], ◌∷◌, ◌++◌, append_assoc, append-nil}
-use lib.ListN.{length, take, drop, get_or, set, length-append, length-drop, length-map, take-append-drop, get_or-map}
+use lib.ListN.{replicate, length-take, length, take, drop, get_or, set, length-append, length-drop, length-map, take-append-drop, get_or-map}
 use lib.Seq.{paste, paste-suc, take-length, set_split, append_snoc, take_at, drop_at, drop-drop, length-take-le}
 use Rattle.listing.specs.Text.{bits_text}
 use Rattle.listing.specs.Buffer.{Put}
@@ -68,6 +68,10 @@ then {old} {mid} {now} {a} {b} {at} {next} {end} p q =
     }
 
 -- ---- bits
+
+-- of a codeword buffer of 1,023 bytes the first n are lent
+pub lent_long : (n : ℕ) → n ≤ 1023 → length {A = ℕ} (take n (replicate 1023 0)) ≡ n
+lent_long n h = omega (arith, length-take {A = ℕ} n (replicate 1023 0))
 
 -- as many characters as bits, ..
 pub bits_long : (bs : List ℕ) → length (bits_text bs) ≡ length bs

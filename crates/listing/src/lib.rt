@@ -4,6 +4,7 @@
 //
 // The rest is in the private modules `put` (fields), `lines` and `output` (the lines of a take).
 #![tactic(auto)]
+
 ghost use Rattle.std.specs.Prelude.{◌≤◌, ◌≡◌, length};
 ghost use Rattle.listing.specs.Takelist.{takelist, over};
 

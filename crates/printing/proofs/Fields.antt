@@ -17,7 +17,6 @@ use Rattle.listing.specs.Buffer.{Put}
 use Rattle.listing.proofs.Decimals.{decimal_small, decimal_more, decimal_some}
 use Rattle.printing.specs.Layout.{padded, strip_line}
 use Rattle.printing.specs.Fixed.{shown_as, sign_after, filled, fixed_field, Narrow}
-use Rattle.printing.proofs.Cases as Cases
 
 -- as many characters as asked for
 pub filled_long : (i v s : ℕ) → length (filled i v s) ≡ i

@@ -13,7 +13,6 @@ use Rattle.take_format.proofs.takes.Batches.{each_more, joined_behind}
 use Rattle.listing.specs.Text.{ascii, line}
 use Rattle.printing.specs.Fixed.{pages_length}
 use Rattle.printing.specs.Layout.{heading, heading_at, pages, strip_text, strip_length}
-use Rattle.printing.proofs.Cases as Cases
 
 pub heading_long : length heading ≡ 25
 unfolding heading ascii line

@@ -12,7 +12,6 @@ use Rattle.take_format.specs.Take.{header, header_refusal, take_symbols_check, o
 use Rattle.take_format.proofs.checks.RefusalLaws.{first_some, first_none}
 use Rattle.printing.specs.Layout.{strip_length}
 use Rattle.printing.specs.Calls.{strip_refusal}
-use Rattle.printing.proofs.Cases as Cases
 
 module _ (bs strip : List ℕ) where
   abbrev later : List (Option Refusal)

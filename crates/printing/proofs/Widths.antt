@@ -7,7 +7,7 @@ use lib.ListN.{length}
 use lib.Pow.{pow_mono}
 use lib.Signed.{mag}
 use Rattle.chase.specs.Soft.{Answer, Mark, lost, fair, sure}
-use Rattle.chase.proofs.weighing.Sizes.{SmallAnswer}
+use Rattle.chase.proofs.weighing.Bounded.{BoundedAnswer}
 use Rattle.listing.specs.Text.{ascii, signed, mark_name}
 use Rattle.listing.proofs.Decimals.{decimal_long}
 use Rattle.printing.specs.Fixed.{Narrow}
@@ -26,7 +26,7 @@ mark_long fair = refl
 mark_long sure = refl
 
 -- the index has two bytes; a candidate has at most p + t flips, each of at most 15; and there are at most 2^p tries
-pub answer_narrow : (i p : ℕ) → i < 65536 → p ≤ 6 → (a : Answer) → SmallAnswer p a → Narrow i (mark_name a.mark) a.distance a.margin a.tries
+pub answer_narrow : (i p : ℕ) → i < 65536 → p ≤ 6 → (a : Answer) → BoundedAnswer p a → Narrow i (mark_name a.mark) a.distance a.margin a.tries
 answer_narrow i p few depth a s =
     let most : 2 ^ p ≤ 2 ^ 6 = pow_mono depth in
     record {

@@ -11,6 +11,7 @@
 //
 // What has a `requires` is in the private modules `put` (fields and the line of a word) and `pages` (the lines of a take).
 #![tactic(auto)]
+
 ghost use Rattle.std.specs.Prelude.{◌≤◌, ◌≡◌, length};
 ghost use Rattle.receiver.specs.Answer.{words_of};
 ghost use Rattle.listing.specs.Takelist.{over};

@@ -54,8 +54,12 @@ pub fn characters(text: &mut [u8], at: usize, new: &[u8]) -> usize
     requires { at + length new.now ≤ length text.old }
     ensures { Put text.old at new.now text.new result }
 {
-    bytes::copy(new, &mut text[at..]);
-    at + new.len()
+    let mut i = 0;
+    while i < new.len() {
+        text[at + i] = new[i];
+        i += 1;
+    }
+    at + i
 }
 
 // What stands before a number's last digit.

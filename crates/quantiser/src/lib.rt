@@ -11,6 +11,7 @@
 //         refusal::Check::Refused(r) => { .. }            // r.number, r.place: the buffer is as it was
 //     }
 #![tactic(auto)]
+
 ghost use Rattle.std.specs.Prelude.{◌≡◌};
 ghost use Rattle.take_format.specs.Samples.{samples_refusal};
 ghost use Rattle.take_format.specs.Calls.{ladder_answer, quantised_buffer};

@@ -12,7 +12,7 @@ use Rattle.bch.specs.Code.{Code, word_length}
 use Rattle.bch.proofs.codes.Settings.{Lawful}
 use Rattle.chase.specs.Soft.{Answer, Candidate, sure, answer, settled, better, candidate, tried, search_from, soft_stage}
 use Rattle.chase.specs.Word.{Symbols}
-use Rattle.chase.proofs.search.Passing.{Backed, BestBacked, backed_none, backed_tried, step_far}
+use Rattle.chase.proofs.search.Passing.{BestBacked, backed_none, backed_tried, step_far}
 use Rattle.chase.proofs.search.Steps.{search_start, skip, step_sure, step_on, step_end, better_first, better_nearer, better_kept}
 use Rattle.receiver.specs.Search.{candidate_of, pick_of, outcome_of, farther_pick, nearer_pick, pick_by, judged_by, Sound, Tried, Untried}
 use Rattle.receiver.specs.declared.locate.Flips.{Flips}

@@ -27,6 +27,7 @@
 // (`all_words`). What has a `requires` is in private modules, so that this is one crate: to split it would make such functions public. (Modules
 // `hard`, `soft` and `words` would differ only in case from the enums, which is refused.)
 #![tactic(auto)]
+
 ghost use Rattle.std.specs.Prelude.{◌+◌, ◌-◌, ◌^◌, min, ◌≡◌, cond, [], eqb};
 ghost use Rattle.bch.specs.Code.{code};
 ghost use Rattle.take_format.specs.Calls.{hard_answer, hard_buffer, soft_answer, soft_buffer, words_answer, messages_buffer, marks_buffer};

@@ -2,4 +2,5 @@ mod Laddered
 mod Promises
 mod Raised
 mod Sizes
+mod Strips
 pub mod Unpacked

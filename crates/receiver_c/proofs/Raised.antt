@@ -1,5 +1,5 @@
 -- A margin that 2^15 is added to, as a signed number of 32 bits, is no less than 0 and is the packed one. Assumes nothing.
-use Prim.Native.Nat.{ℕ, suc, ◌+◌, ◌-◌, ◌*◌, ◌^◌, ◌<◌}
+use Prim.Native.Nat.{ℕ, suc, ◌+◌, ◌*◌, ◌^◌, ◌<◌}
 use native.Mathlib.Omega.{arith}
 use mathlib.Core.Path.{◌≡◌, ap, sym, subst, ◌∙◌}
 use borrow.Author.Rules.{sfits_of}

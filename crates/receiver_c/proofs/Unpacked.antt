@@ -2,13 +2,14 @@
 use Prim.Native.Nat.{ℕ, ◌+◌, ◌*◌, ◌/◌, ◌%◌, ◌^◌, ◌<◌}
 use native.Mathlib.Omega.{arith}
 use mathlib.Core.Path.{◌≡◌, refl}
+use mathlib.Core.Logic.{inr}
 use lib.ListN.{get_or}
 use Rattle.chase.specs.Soft.{Mark, lost, fair, sure, Answer}
 use Rattle.take_format.specs.Refusal.{Refusal}
 use Rattle.take_format.specs.Calls.{HardAnswer, found, lost as lost·hard}
 use Rattle.take_format.specs.Batch.{mark_byte, Totals}
 use Rattle.take_format.specs.Take.{Header}
-use Rattle.receiver_c.specs.Packed.{refusal_packed, hard_packed, margin_packed, answer_packed, header_packed, totals_packed}
+use Rattle.receiver_c.specs.Packed.{refusal_packed, hard_packed, margin_packed, answer_packed, header_packed, totals_packed, length_packed}
 use Rattle.receiver_c.proofs.Raised.{margin_lt}
 use Rattle.receiver_c.proofs.Sizes.{Flipped, Room}
 
@@ -153,3 +154,17 @@ module _ (k : Totals) (room : (k.sures < 65536) × (k.fairs < 65536) × (k.tries
   pub totals_bits : totals_packed k < 2 ^ 64
   unfolding totals_packed
   totals_bits = omega (arith, room.0, room.1, room.2)
+
+-- a strip's length
+module _ (n : ℕ) where
+  pub length_zero : length_packed (inr n) % 2 ^ 8 ≡ 0
+  unfolding length_packed
+  length_zero = omega arith
+
+  pub length_bytes : length_packed (inr n) / 2 ^ 8 ≡ n
+  unfolding length_packed
+  length_bytes = omega arith
+
+  pub length_bits : n < 2 ^ 56 → length_packed (inr n) < 2 ^ 64
+  unfolding length_packed
+  length_bits h = omega arith

@@ -67,6 +67,12 @@ unfolding refusal_packed totals_packed
 take_packed (inl r) = refusal_packed r
 take_packed (inr k) = totals_packed k
 
+-- a strip's length: a zero byte, and the length, seven bytes. Printing a strip answers as reading a take does
+unfoldable pub length_packed : Refusal ⊎ ℕ → ℕ
+unfolding refusal_packed
+length_packed (inl r) = refusal_packed r
+length_packed (inr n) = 2 ^ 8 * n
+
 -- quantising by a ladder's edges: first the ladder's check, then the samples'
 unfoldable pub quantise_refusal : List Float → List ℕ → List Float → List ℕ → Option Refusal
 unfolding first_of ladder_check samples_refusal

@@ -1,15 +1,20 @@
-// The receiver for programs in C and Rust: the calls of `encoder`, `receiver`, `quantiser` and `takes` on numbers and slices alone. A
-// slice is passed as a pointer and a length. What a call answers comes back as one number of 64 bits (`specs/Packed.antt`), so that a
-// refusal writes to no lent buffer; bindings/receiver.h tells how to read it.
+// The receiver for programs in C and Rust: the calls of `encoder`, `receiver`, `quantiser`, `takes` and `printing` on numbers and slices
+// alone. A slice is passed as a pointer and a length. What a call answers comes back as one number of 64 bits (`specs/Packed.antt`), so that
+// a refusal writes to no lent buffer; bindings/receiver.h tells how to read it.
+#![tactic(auto)]
+
 ghost use Rattle.std.specs.Prelude.{◌≡◌};
 ghost use Rattle.bch.specs.Code.{code};
 ghost use Rattle.take_format.specs.Refusal.{encode_refusal};
 ghost use Rattle.take_format.specs.Samples.{ladder_check};
 ghost use Rattle.take_format.specs.Calls.{encode_buffer, hard_answer, hard_buffer, soft_answer, soft_buffer};
 ghost use Rattle.take_format.specs.Take.{open_answer, take_answer, take_messages, take_marks};
-ghost use Rattle.receiver_c.specs.Packed.{check_packed, hard_packed, soft_packed, open_packed, take_packed, quantise_refusal, quantise_buffer, Promised};
+ghost use Rattle.printing.specs.Calls.{length_answer, strip_answer, strip_buffer};
+ghost use Rattle.receiver_c.specs.Packed.{check_packed, hard_packed, soft_packed, open_packed, take_packed, length_packed};
+ghost use Rattle.receiver_c.specs.Packed.{quantise_refusal, quantise_buffer, Promised};
 
 use encoder::Encoded;
+use printing::Length;
 use quantiser::Made;
 use receiver::{HardCase, Soft, Words};
 use refusal::Check;
@@ -149,5 +154,28 @@ pub extern "C" fn receiver_read_take_packed(
     match takes::read_take(take, messages, marks) {
         Words::Refused(r) => packed::refusal(r),
         Words::Decoded(totals) => packed::totals(totals),
+    }
+}
+
+// Answers how many bytes the strip of a take has.
+#[unsafe(no_mangle)]
+pub extern "C" fn receiver_strip_length_packed(take: &[u8]) -> u64
+    ensures { result ≡ length_packed (length_answer take.now) }
+{
+    match printing::strip_length(take) {
+        Length::Refused(r) => packed::refusal(r),
+        Length::Bytes(bytes) => 256 * (bytes as u64),
+    }
+}
+
+// Reads a take and writes its strip.
+#[unsafe(no_mangle)]
+pub extern "C" fn receiver_print_take_packed(take: &[u8], strip: &mut [u8]) -> u64
+    ensures answer { result ≡ take_packed (strip_answer take.now strip.old) }
+    ensures strip { strip.new ≡ strip_buffer take.now strip.old }
+{
+    match printing::print_take(take, strip) {
+        Words::Refused(refused) => packed::refusal(refused),
+        Words::Decoded(sums) => packed::totals(sums),
     }
 }

@@ -15,7 +15,6 @@ use Rattle.bch.specs.Words.{Bits, flips, is_in, Distinct, flipped_at}
 use Rattle.bch.proofs.codes.Entries.{below_at}
 use Rattle.bch.proofs.codes.Flipped.{flipped_other, flipped_one}
 use Rattle.chase.specs.Soft.{hard_bits, reliabilities, test_word, rank, allowance}
-use Rattle.chase.proofs.Cases as Cases
 use Rattle.chase.proofs.ranking.Keys.{Weakest, ranked_of}
 use Rattle.chase.proofs.ranking.Unflipped.{skipping_sum, Tells, allowance_first}
 use Rattle.chase.proofs.test_words.Reach.{length_hard, length_reliabilities, length_test}

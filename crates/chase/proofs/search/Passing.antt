@@ -1,6 +1,6 @@
 -- A candidate that is farther than the best so far can't be sure, so the search goes on with that best one, and the candidate's
 -- allowance A is not needed. Assumes nothing.
-use Prim.Native.Nat.{ℕ, ◌+◌, ◌-◌, ◌^◌, ◌≤◌, ◌<◌}
+use Prim.Native.Nat.{ℕ, ◌+◌, ◌-◌, ◌^◌, ◌<◌}
 use native.Mathlib.Omega.{arith}
 use mathlib.Core.Path.{◌≡◌, refl, ap, sym, subst, ◌∙◌}
 use mathlib.Core.List.{List}
@@ -47,22 +47,26 @@ module _ (code : Code) (is_code : Lawful code) (p : ℕ) (ss : List ℕ) (long :
   unfolding candidate
   backed_tried = record { codeword = gave.1; sum = ap (λ (k : Candidate). k.L) gave.0 }
 
+  -- a nearer one has at least the allowance of k
+  unsure_beside : (b : Candidate) → Backed code ss b → b.L < k.L → k.A < k.L
+  unfolding candidate
+  unsure_beside b backed nearer =
+      let a : k.A ≡ allowed code ss k.word = ap (λ (k : Candidate). k.A) gave.0 in
+      let l : k.L ≡ soft_distance ss k.word = ap (λ (k : Candidate). k.L) gave.0 in
+      omega (
+        arith,
+        farther code is_code (reliabilities ss) (hard_bits ss) (length_reliabilities ss ∙ long) (length_hard ss ∙ long) k.word b.word gave.1
+            backed.codeword (omega (arith, backed.sum)),
+      )
+
   module _ (b : Candidate) (backed : Backed code ss b) (far : b.L < k.L) where
     -- farther than another, it is not sure, ..
     pub far_unsure : k.A < k.L
-    unfolding candidate
-    far_unsure =
-        let a : k.A ≡ allowed code ss k.word = ap (λ (k : Candidate). k.A) gave.0 in
-        let l : k.L ≡ soft_distance ss k.word = ap (λ (k : Candidate). k.L) gave.0 in
-        omega (
-          arith,
-          farther code is_code (reliabilities ss) (hard_bits ss) (length_reliabilities ss ∙ long) (length_hard ss ∙ long) k.word b.word gave.1
-              backed.codeword (omega (arith, backed.sum)),
-        )
+    far_unsure = unsure_beside b backed far
 
     -- .. and the search goes on with the best so far
     pub step_far : (n : ℕ) (best : Option Candidate) → j < n → best ≡ some b
         → search_from code p ss (n - j) j best ≡ search_from code p ss (n - (j + 1)) (j + 1) best
     step_far n best more e =
-        step_on code p ss n j best more k given far_unsure
+        step_on code p ss n j best more k given (unsure_beside b backed far)
         ∙ ap (search_from code p ss (n - (j + 1)) (j + 1)) (ap (λ (o : Option Candidate). better o k) e ∙ better_kept b k (omega arith) ∙ sym e)

@@ -21,7 +21,6 @@ use Rattle.bch.proofs.codes.HardLaws.{repaired_some, repaired_near}
 use Rattle.chase.specs.Soft.{hard_bits, reliabilities, Mark, lost, fair, sure, Answer, Candidate, answer, lost_answer, settled, better, candidate}
 use Rattle.chase.specs.Soft.{tried, search_from, soft_stage}
 use Rattle.chase.specs.Word.{Symbols, soft_distance, allowed, test, weakest, Near, InReach, WordWeighed}
-use Rattle.chase.proofs.Cases as Cases
 use Rattle.chase.proofs.weighing.Weighing.{accepted, runner_up}
 use Rattle.chase.proofs.test_words.Reach.{bits_hard, length_hard, length_reliabilities, bits_test, length_test, reach}
 use Rattle.chase.proofs.ranking.Ranking.{weak_length}

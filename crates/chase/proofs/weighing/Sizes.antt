@@ -73,7 +73,7 @@ step_flips : (b : Bool) (w : ℕ) (xs : List ℕ) → flips (cond b (flip xs w) 
 step_flips true w xs = omega (arith, flips_flip xs xs w, flips_same xs)
 step_flips false w xs = omega (arith, flips_same xs)
 
-test_flips : (j : ℕ) (ws xs : List ℕ) → flips (test_word j ws xs) xs ≤ length ws
+pub test_flips : (j : ℕ) (ws xs : List ℕ) → flips (test_word j ws xs) xs ≤ length ws
 unfolding test_word
 test_flips j [] xs = omega (arith, flips_same xs)
 test_flips j (w ∷ ws) xs =

@@ -49,6 +49,18 @@ distance_most (z ∷ zs) (y ∷ ys) (x ∷ xs) h =
     least true = omega arith
     least false = omega arith
 
+-- .. and for each flip
+pub distance_flips : (zs ys xs : List ℕ) → ((i : ℕ) → get_or zs i 0 < 16) → distance zs ys xs ≤ 15 * flips ys xs
+unfolding distance flips
+distance_flips [] ys xs h = omega arith
+distance_flips (z ∷ zs) [] xs h = omega arith
+distance_flips (z ∷ zs) (y ∷ ys) [] h = omega arith
+distance_flips (z ∷ zs) (y ∷ ys) (x ∷ xs) h = omega (arith, one (eqb y x), distance_flips zs ys xs (λ i. h (suc i)))
+  where
+    one : (b : Bool) → cond b 0 z ≤ 15 * cond b 0 1
+    one true = omega arith
+    one false = omega (arith, h 0)
+
 -- a word has the distance 0 from itself
 pub distance_same : (zs xs : List ℕ) → distance zs xs xs ≡ 0
 unfolding distance

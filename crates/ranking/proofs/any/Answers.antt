@@ -1,10 +1,6 @@
 -- What is found, and the marks still to come, tell whether there is one. Assumes nothing.
-use Prim.Native.Nat.{◌-◌, ◌≤◌}
-use mathlib.Core.Path.{◌≡◌, refl, sym, ◌∙◌}
+use mathlib.Core.Path.{refl, sym, ◌∙◌}
 use native.Mathlib.Omega.{arith}
-use mathlib.Core.Bool.{true, cond}
-use lib.ListN.{drop}
-use Rattle.ranking.specs.Levels.{marks, any_of}
 use Rattle.ranking.proofs.Marking.{any_more, any_end}
 use Rattle.ranking.proofs.any.Goals as goal
 

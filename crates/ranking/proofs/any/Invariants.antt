@@ -1,11 +1,9 @@
 -- What is found, and the marks still to come, tell whether there is one. Assumes nothing.
 use Prim.Native.Nat.{◌-◌, ◌≤◌}
-use mathlib.Core.Path.{◌≡◌, refl, sym, ◌∙◌}
-use native.Mathlib.Omega.{arith}
+use mathlib.Core.Path.{◌≡◌}
 use mathlib.Core.Bool.{true, cond}
 use lib.ListN.{drop}
 use Rattle.ranking.specs.Levels.{marks, any_of}
-use Rattle.ranking.proofs.Marking.{any_more, any_end}
 use Rattle.ranking.proofs.any.Given as goal
 
 abbrev pub invariant-loop-i : goal.invariant-loop-i

@@ -1,11 +1,11 @@
 -- The first k keys are in their places, and the others are still to come. Assumes nothing.
-use Prim.Native.Nat.{ℕ, ◌-◌, ◌≤◌}
+use Prim.Native.Nat.{ℕ, ◌-◌}
 use native.Mathlib.Omega.{arith}
 use mathlib.Core.Path.{◌≡◌, refl, ap, sym, ◌∙◌}
 use mathlib.Core.List.{◌++◌}
-use lib.ListN.{length, take, drop, length-set}
+use lib.ListN.{take, length-set}
 use Rattle.ranking.specs.Weakest.{padded}
-use Rattle.ranking.specs.Levels.{level_keys, to_come, Sound}
+use Rattle.ranking.specs.Levels.{level_keys, to_come}
 use Rattle.ranking.proofs.Cursors.{start_sound, start_come, next_put, low_put, high_put, all_taken}
 use Rattle.ranking.proofs.first_keys.Goals as goal
 use Rattle.ranking.proofs.first_keys.Goals.{then-k-lt6, else-k-lt6}
@@ -53,22 +53,22 @@ loop-k-preserved c =
     let come = sym l.invariant.5 ∙ sym c.ready-c.ensures.1 ∙ d.ensures.taken ss in
     let next = next_put l.k (d.result.key - 1) (l.at ++ l.more) (level_keys 16 0 ss) (to_come d.result ss) (omega arith) l.invariant.4 come in
     elim c.if-k-lt6.branch [
-      then-k-lt6 w ↦ rw (w.at-is, w.more-is) (
-      omega arith,
-      d.ensures.sound,
-      simp length-set l.invariant.2,
-      l.invariant.3,
-      low_put l.k (d.result.key - 1) l.at l.more w.if-k-lt6.true l.invariant.2 ∙ next.0,
-      sym next.1,
-    )
-    | else-k-lt6 w ↦ rw (w.at-is, w.more-is) (
-      omega arith,
-      d.ensures.sound,
-      l.invariant.2,
-      simp length-set l.invariant.3,
-      high_put l.k (d.result.key - 1) l.at l.more (omega (arith, w.if-k-lt6.false)) l.invariant.2 ∙ next.0,
-      sym next.1,
-    )
+      | then-k-lt6 w ↦ rw (w.at-is, w.more-is) (
+        omega arith,
+        d.ensures.sound,
+        simp length-set l.invariant.2,
+        l.invariant.3,
+        low_put l.k (d.result.key - 1) l.at l.more w.if-k-lt6.true l.invariant.2 ∙ next.0,
+        sym next.1,
+      )
+      | else-k-lt6 w ↦ rw (w.at-is, w.more-is) (
+        omega arith,
+        d.ensures.sound,
+        l.invariant.2,
+        simp length-set l.invariant.3,
+        high_put l.k (d.result.key - 1) l.at l.more (omega (arith, w.if-k-lt6.false)) l.invariant.2 ∙ next.0,
+        sym next.1,
+      )
     ]
 
 pub returns : goal.returns

@@ -1,13 +1,10 @@
 -- The first k keys are in their places, and the others are still to come. Assumes nothing.
-use Prim.Native.Nat.{ℕ, ◌-◌, ◌≤◌}
-use native.Mathlib.Omega.{arith}
-use mathlib.Core.Path.{◌≡◌, refl, ap, sym, ◌∙◌}
-use mathlib.Core.Logic.{⊎_elim}
+use Prim.Native.Nat.{◌-◌, ◌≤◌}
+use mathlib.Core.Path.{◌≡◌}
 use mathlib.Core.List.{◌++◌}
-use lib.ListN.{length, take, drop, length-set}
+use lib.ListN.{length, take, drop}
 use Rattle.ranking.specs.Weakest.{padded}
 use Rattle.ranking.specs.Levels.{level_keys, to_come, Sound}
-use Rattle.ranking.proofs.Cursors.{start_sound, start_come, next_put, low_put, high_put, all_taken}
 use Rattle.ranking.proofs.first_keys.Given as goal
 
 abbrev pub invariant-loop-k : goal.invariant-loop-k

@@ -1,8 +1,6 @@
 -- The next reliability above z among the symbols passed. Assumes nothing.
-use Prim.Native.Nat.{◌-◌, ◌≤◌}
 use native.Mathlib.Omega.{arith}
-use lib.ListN.{length}
-use Rattle.ranking.proofs.Steps.{Nearest, nearest_none, nearest_more}
+use Rattle.ranking.proofs.Steps.{nearest_none, nearest_more}
 use Rattle.ranking.proofs.least_above.Goals as goal
 
 pub loop-i-init : goal.loop-i-init

@@ -3,7 +3,7 @@ use Prim.Native.Nat.{ℕ, suc, ◌-◌, ◌≤◌}
 use native.Mathlib.Omega.{arith}
 use mathlib.Core.Path.{◌≡◌, refl, ap, sym, ◌∙◌}
 use mathlib.Core.List.{List, ◌++◌}
-use Rattle.ranking.specs.Levels.{level_from, level_keys, to_come}
+use Rattle.ranking.specs.Levels.{level_from, level_keys}
 use Rattle.ranking.proofs.Steps.{levels_over, levels_next}
 use Rattle.ranking.proofs.Cursors.{sought_come, empty_come}
 use Rattle.ranking.proofs.onward.Goals as goal

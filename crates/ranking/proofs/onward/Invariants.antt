@@ -1,11 +1,8 @@
 -- The levels passed have no more symbols. Assumes nothing.
-use Prim.Native.Nat.{ℕ, suc, ◌-◌, ◌≤◌}
-use native.Mathlib.Omega.{arith}
-use mathlib.Core.Path.{◌≡◌, refl, ap, sym, ◌∙◌}
-use mathlib.Core.List.{List, ◌++◌}
+use Prim.Native.Nat.{suc, ◌-◌, ◌≤◌}
+use mathlib.Core.Path.{◌≡◌}
+use mathlib.Core.List.{◌++◌}
 use Rattle.ranking.specs.Levels.{level_from, level_keys, to_come}
-use Rattle.ranking.proofs.Steps.{levels_over, levels_next}
-use Rattle.ranking.proofs.Cursors.{sought_come, empty_come}
 use Rattle.ranking.proofs.onward.Given as goal
 
 abbrev pub invariant-loop-z : goal.invariant-loop-z

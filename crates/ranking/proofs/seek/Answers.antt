@@ -1,9 +1,6 @@
 -- The symbols passed are not of the level. Assumes nothing.
-use Prim.Native.Nat.{◌-◌, ◌≤◌}
 use native.Mathlib.Omega.{arith}
-use mathlib.Core.Path.{◌≡◌, refl}
-use lib.ListN.{length}
-use Rattle.ranking.specs.Levels.{level_from}
+use mathlib.Core.Path.{refl}
 use Rattle.ranking.proofs.Cursors.{sixteen_none, sixteen_found, seek_end}
 use Rattle.ranking.proofs.seek.Goals as goal
 

@@ -1,10 +1,8 @@
 -- The symbols passed are not of the level. Assumes nothing.
 use Prim.Native.Nat.{◌-◌, ◌≤◌}
-use native.Mathlib.Omega.{arith}
-use mathlib.Core.Path.{◌≡◌, refl}
+use mathlib.Core.Path.{◌≡◌}
 use lib.ListN.{length}
 use Rattle.ranking.specs.Levels.{level_from}
-use Rattle.ranking.proofs.Cursors.{sixteen_none, sixteen_found, seek_end}
 use Rattle.ranking.proofs.seek.Given as goal
 
 abbrev pub invariant-loop-i : goal.invariant-loop-i

@@ -1,5 +1,4 @@
 -- The key of the lowest bit is the next, and the higher bits are left. Assumes nothing.
--- there are few zeros
 use Prim.Native.Nat.{◌<◌}
 use native.Mathlib.Omega.{arith}
 use Rattle.ranking.proofs.Cursors.{zeros_few, stepped}

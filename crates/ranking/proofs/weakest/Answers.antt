@@ -21,6 +21,9 @@ returns c =
     let size = c.least-size in
     let n = c.least-n in
     let k = c.first_keys in
-    record { at_value = (first_weakest c.args.count size.result n.result c.args.symbols.now k.result.at k.result.more size.ensures n.ensures
-    k.ensures.1 k.ensures.0).0; more_value = (first_weakest c.args.count size.result n.result c.args.symbols.now k.result.at k.result.more size.ensures n.ensures
-    k.ensures.1 k.ensures.0).1 }
+    record {
+      at_value = (first_weakest c.args.count size.result n.result c.args.symbols.now k.result.at k.result.more size.ensures n.ensures
+          k.ensures.1 k.ensures.0).0;
+      more_value = (first_weakest c.args.count size.result n.result c.args.symbols.now k.result.at k.result.more size.ensures n.ensures
+          k.ensures.1 k.ensures.0).1;
+    }

@@ -1,8 +1,8 @@
 -- The bits are those of the marks passed, from the last down. Assumes nothing.
-use Prim.Native.Nat.{ℕ, ◌+◌, ◌-◌, ◌*◌, ◌≤◌, ◌<◌}
+use Prim.Native.Nat.{ℕ, ◌+◌, ◌-◌, ◌*◌}
 use mathlib.Core.Path.{◌≡◌, refl, ap, ◌∙◌}
 use native.Mathlib.Omega.{arith}
-use lib.ListN.{drop, length}
+use lib.ListN.{drop}
 use Rattle.ranking.specs.Levels.{marks, bits_of}
 use Rattle.ranking.proofs.Marking.{bits_from, bits_before, bits_none}
 use Rattle.ranking.proofs.which.Goals as goal

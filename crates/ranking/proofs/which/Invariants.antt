@@ -1,10 +1,8 @@
 -- The bits are those of the marks passed, from the last down. Assumes nothing.
-use Prim.Native.Nat.{ℕ, ◌+◌, ◌-◌, ◌*◌, ◌≤◌, ◌<◌}
-use mathlib.Core.Path.{◌≡◌, refl, ap, ◌∙◌}
-use native.Mathlib.Omega.{arith}
+use Prim.Native.Nat.{◌≤◌, ◌<◌}
+use mathlib.Core.Path.{◌≡◌}
 use lib.ListN.{drop, length}
 use Rattle.ranking.specs.Levels.{marks, bits_of}
-use Rattle.ranking.proofs.Marking.{bits_from, bits_before, bits_none}
 use Rattle.ranking.proofs.which.Given as goal
 
 abbrev pub invariant-loop-i : goal.invariant-loop-i

@@ -45,5 +45,5 @@ returns-in-Code c =
     let old = a.codeword.now in
     let (ok, e) = named_code c.in-Code.c (hard_refusal w xs old) w
     (sym (ap named_of c.in-Code.is) ∙ c.of_word.ensures) in
-    let d = c.decode.ensures.?whole in
-    record { result_value = d.0 ∙ ap (λ (k : struct.Code). hard_record (inr (hard_stage (code_of k) xs))) e ∙ ap hard_record (answered_none _ (hard_stage w xs) ok); codeword_after = d.1 ∙ ap (λ (k : struct.Code). hard_written (code_of k) xs old) e ∙ buffer_none _ old (hard_written w xs old) ok }
+    let d = c.decode.ensures in
+    record { result_value = d.result_value ∙ ap (λ (k : struct.Code). hard_record (inr (hard_stage (code_of k) xs))) e ∙ ap hard_record (answered_none _ (hard_stage w xs) ok); codeword_after = d.codeword_after ∙ ap (λ (k : struct.Code). hard_written (code_of k) xs old) e ∙ buffer_none _ old (hard_written w xs old) ok }

@@ -51,5 +51,5 @@ returns-in-Code c =
     let (ok, e) = named_code c.in-Code.c (soft_refusal w p ss old) w
     (sym (ap named_of c.in-Code.is) ∙ c.of_symbols.ensures) in
     let r = soft_stage w p ss in
-    let d = c.decode.ensures.?whole in
-    record { codeword_after = d.0 ∙ ap (λ (k : struct.Code). inr (soft_stage (code_of k) p ss)) e ∙ answered_none _ r ok; codeword_after_2 = d.1 ∙ ap (λ (k : struct.Code). soft_written (soft_stage (code_of k) p ss) old) e ∙ buffer_none _ old (soft_written r old) ok }
+    let d = c.decode.ensures in
+    record { codeword_after = d.codeword_after ∙ ap (λ (k : struct.Code). inr (soft_stage (code_of k) p ss)) e ∙ answered_none _ r ok; codeword_after_2 = d.codeword_after_2 ∙ ap (λ (k : struct.Code). soft_written (soft_stage (code_of k) p ss) old) e ∙ buffer_none _ old (soft_written r old) ok }

@@ -62,5 +62,5 @@ returns-in-Code c =
     let same : (f : Code → List Answer → List ℕ) → f (code_of c.in-Code.c) (answers_to (code_of c.in-Code.c) p (length ks) ss) ≡ f w all = λ f.
     ap (λ (k : struct.Code). f (code_of k) (answers_to (code_of k) p (length ks) ss)) e ∙ ap (λ (n : ℕ). f w (answers_to w p n ss)) many in
     let totals = ap (λ (k : struct.Code). totals_of (answers_to (code_of k) p (length ks) ss)) e ∙ ap (λ (n : ℕ). totals_of (answers_to w p n ss)) many in
-    let d = c.decode.ensures.?whole in
-    record { result_value = ap inr (d.0 ∙ totals) ∙ answered_none _ (totals_of all) ok; messages_after = d.1.0 ∙ same messages_of ∙ buffer_none _ ms (messages_of w all) ok; marks_after = d.1.1 ∙ same (λ k as'. marks_of as') ∙ buffer_none _ ks (marks_of all) ok }
+    let d = c.decode.ensures in
+    record { result_value = ap inr (d.result_value ∙ totals) ∙ answered_none _ (totals_of all) ok; messages_after = d.messages_after ∙ same messages_of ∙ buffer_none _ ms (messages_of w all) ok; marks_after = d.marks_after ∙ same (λ k as'. marks_of as') ∙ buffer_none _ ks (marks_of all) ok }

@@ -11,12 +11,12 @@ use Rattle.refusal.proofs.at_most_from.Goals as goal
 
 pub returns-then-bytes-start : goal.returns-then-bytes-start
 unfolding checked
-returns-then-bytes-start c =     let a = c.args in
+returns-then-bytes-start c = let a = c.args in
     above_none a.number a.most a.start a.bytes.now c.if-bytes-start.true
 
 pub returns-then-highest-most : goal.returns-then-highest-most
 unfolding checked
-returns-then-highest-most c =     let a = c.args in
+returns-then-highest-most c = let a = c.args in
     let h = c.highest in
     let xs = drop a.start a.bytes.now in
     let all = subst (λ (l : List ℕ). AtMost h.result l) (take_all (length a.bytes.now - a.start) xs

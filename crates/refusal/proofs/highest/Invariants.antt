@@ -1,7 +1,5 @@
 -- No byte that was passed is above the largest so far. Assumes nothing.
 use Prim.Native.Nat.{ℕ, ◌-◌, ◌≤◌, ◌<◌}
-use native.Mathlib.Omega.{arith}
-use borrow.Author.Count.{below_none, below_more}
 use lib.ListN.{length, get_or}
 use Rattle.refusal.proofs.highest.Given as goal
 

@@ -12,22 +12,22 @@ use Rattle.refusal.proofs.settings.Goals as goal
 
 pub over-requires : goal.over-requires
 unfolding poly
-over-requires c =     let e = c.in-5.is in
+over-requires c = let e = c.in-5.is in
     (omega arith, omega arith, sym (ap (λ (k : ℕ). 2 ^ k) e), sym (ap poly e), omega arith)
 
 pub over-requires-in-6 : goal.over-requires-in-6
 unfolding poly
-over-requires-in-6 c =     let e = c.in-6.is in
+over-requires-in-6 c = let e = c.in-6.is in
     (omega arith, omega arith, sym (ap (λ (k : ℕ). 2 ^ k) e), sym (ap poly e), omega arith)
 
 pub over-requires-in-7 : goal.over-requires-in-7
 unfolding poly
-over-requires-in-7 c =     let e = c.in-7.is in
+over-requires-in-7 c = let e = c.in-7.is in
     (omega arith, omega arith, sym (ap (λ (k : ℕ). 2 ^ k) e), sym (ap poly e), omega arith)
 
 pub over-requires-in-8 : goal.over-requires-in-8
 unfolding poly
-over-requires-in-8 c =     let e = c.in-8.is in
+over-requires-in-8 c = let e = c.in-8.is in
     (omega arith, omega arith, sym (ap (λ (k : ℕ). 2 ^ k) e), sym (ap poly e), omega arith)
 
 pub returns-in-5 : goal.returns-in-5
@@ -44,6 +44,6 @@ returns-in-8 c = c.over-in-8.ensures
 
 pub returns-in_default : goal.returns-in_default
 unfolding answered Refusal·settings first_of unless
-returns-in_default c =     let m = c.args.m in
+returns-in_default c = let m = c.args.m in
     c.unnamed.ensures
     ∙ sym (⊎_elim (λ l. simp (lt-leb 5 m l)) (λ l. let h : 8 < m = omega arith in simp (le-leb 5 m l, lt-leb m 8 h)) (lt_or_le m 5))

@@ -8,17 +8,17 @@ use Rattle.refusal.proofs.symbols.Goals as goal
 
 pub returns-then-depth-gt6 : goal.returns-then-depth-gt6
 unfolding symbols_check
-returns-then-depth-gt6 c =     let a = c.args in
+returns-then-depth-gt6 c = let a = c.args in
     c.refuse.ensures ∙ sym (simp (lt-leb a.depth 6 c.if-depth-gt6.true))
 
 pub returns-then-symbols-n : goal.returns-then-symbols-n
 unfolding symbols_check
-returns-then-symbols-n c =     let a = c.args in
+returns-then-symbols-n c = let a = c.args in
     c.refuse-then-symbols-n.ensures ∙ sym (simp (le-leb a.depth 6 c.if-depth-gt6.false, ne_eqb (length a.symbols.now) a.n c.if-symbols-n.true))
 
 pub returns-then-room-n : goal.returns-then-room-n
 unfolding symbols_check
-returns-then-room-n c =     let a = c.args in
+returns-then-room-n c = let a = c.args in
     c.refuse-then-room-n.ensures ∙ sym (simp (
       le-leb a.depth 6 c.if-depth-gt6.false,
       eq-eqb (length a.symbols.now) a.n c.if-symbols-n.false,
@@ -27,7 +27,7 @@ returns-then-room-n c =     let a = c.args in
 
 pub returns : goal.returns
 unfolding symbols_check
-returns c =     let a = c.args in
+returns c = let a = c.args in
     c.at_most.ensures ∙ sym (simp (
       le-leb a.depth 6 c.if-depth-gt6.false,
       eq-eqb (length a.symbols.now) a.n c.if-symbols-n.false,

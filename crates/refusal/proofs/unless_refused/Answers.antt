@@ -6,12 +6,6 @@ use Rattle.refusal.specs.Named.{named_of}
 use Rattle.refusal.specs.declared.Check.{Check}
 use Rattle.refusal.proofs.unless_refused.Goals as goal
 
--- ?? enum-known-later : tie.Need-enum-known-later
--- ?? enum-known-later c = search rules
-
--- ?? enum_told : tie.Need-enum-told
--- ?? enum_told c = search rules
-
 pub returns-in-Refused : goal.returns-in-Refused
 unfolding named_of checked answered
 returns-in-Refused c = sym (ap (λ (k : Check). answered (checked k) c.args.c) c.in-Refused.is)

@@ -27,7 +27,7 @@ as_long x words k made e =
 
 pub returns-then-p-gt6 : goal.returns-then-p-gt6
 unfolding words_check
-returns-then-p-gt6 c =     let a = c.args in
+returns-then-p-gt6 c = let a = c.args in
     c.refuse.ensures ∙ sym (simp (lt-leb a.p 6 c.if-p-gt6.true))
 
 pub overflow_mul-words : goal.overflow_mul-words
@@ -35,7 +35,7 @@ overflow_mul-words c = omega (arith, fitting c.args.c c.args.words c.length.resu
 
 pub returns-then-all-words : goal.returns-then-all-words
 unfolding words_check
-returns-then-all-words c =     let a = c.args in
+returns-then-all-words c = let a = c.args in
     let e = ap (λ (x : ℕ). a.words * x) c.length.ensures in
     c.refuse-then-all-words.ensures ∙ sym
     (simp (
@@ -44,11 +44,11 @@ returns-then-all-words c =     let a = c.args in
     ))
 
 pub overflow_mul-words-2 : goal.overflow_mul-words-2
-overflow_mul-words-2 c =     omega (arith, fitting c.args.c c.args.words c.message_length.result c.requires.0 c.requires.1 (omega (arith, c.message_length.ensures, c.requires.0.is_n)))
+overflow_mul-words-2 c = omega (arith, fitting c.args.c c.args.words c.message_length.result c.requires.0 c.requires.1 (omega (arith, c.message_length.ensures, c.requires.0.is_n)))
 
 pub returns-then-messages-words : goal.returns-then-messages-words
 unfolding words_check
-returns-then-messages-words c =     let a = c.args in
+returns-then-messages-words c = let a = c.args in
     let e = ap (λ (x : ℕ). a.words * x) c.length.ensures in
     let f = as_long a.c a.words c.message_length.result c.requires.0 c.message_length.ensures in
     c.refuse-then-messages-words.ensures ∙ sym
@@ -60,7 +60,7 @@ returns-then-messages-words c =     let a = c.args in
 
 pub returns-then-marks-words : goal.returns-then-marks-words
 unfolding words_check
-returns-then-marks-words c =     let a = c.args in
+returns-then-marks-words c = let a = c.args in
     let e = ap (λ (x : ℕ). a.words * x) c.length.ensures in
     let f = as_long a.c a.words c.message_length.result c.requires.0 c.message_length.ensures in
     c.refuse-then-marks-words.ensures ∙ sym
@@ -73,7 +73,7 @@ returns-then-marks-words c =     let a = c.args in
 
 pub returns : goal.returns
 unfolding words_check symbol_bytes
-returns c =     let a = c.args in
+returns c = let a = c.args in
     let e = ap (λ (x : ℕ). a.words * x) c.length.ensures in
     let f = as_long a.c a.words c.message_length.result c.requires.0 c.message_length.ensures in
     c.at_most.ensures ∙ sym

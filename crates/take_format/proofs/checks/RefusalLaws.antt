@@ -17,7 +17,6 @@ use Rattle.bch.specs.Code.{Code, IsCode, parity_length, word_length, message_len
 use Rattle.chase.specs.Word.{Symbols}
 use Rattle.take_format.specs.Refusal.{Refusal, refused, unless, unless_at_most, first_of, settings, depth_check, input_length, output_length}
 use Rattle.take_format.specs.Refusal.{bit_bytes, symbol_bytes, bits_check, bits_refusal, symbols_check, soft_refusal, words_check, words_refusal}
-use Rattle.take_format.proofs.Cases as Cases
 
 -- ---- a list of checks
 

@@ -1,6 +1,6 @@
 -- The edges of a ladder, and samples, gone through one after the other, as a loop does it: what one more adds, and the end. And
 -- what a ladder and samples are refused for, by what each check finds. Assumes nothing.
-use Prim.Native.Nat.{ℕ, zero, suc, ◌+◌, ◌≤◌, ◌<◌}
+use Prim.Native.Nat.{ℕ, zero, suc, ◌+◌, ◌<◌}
 use native.Mathlib.Omega.{arith}
 use native.Mathlib.Numerals.{add-one}
 use mathlib.Core.Path.{◌≡◌, refl, ap, sym, subst, ◌∙◌}

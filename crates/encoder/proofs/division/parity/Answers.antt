@@ -1,8 +1,8 @@
 -- The register is the remainder of the bits behind the place, and so ends as that of the message. Assumes nothing.
-use Prim.Native.Nat.{◌-◌, ◌≤◌, ◌<◌, ◌^◌}
+use Prim.Native.Nat.{◌-◌, ◌<◌, ◌^◌}
 use native.Mathlib.Omega.{arith}
 use mathlib.Core.Path.{◌≡◌, ap, ap₂, sym, ◌∙◌}
-use lib.ListN.{length, drop}
+use lib.ListN.{drop}
 use lib.Seq.{drop-length}
 use Rattle.bch.proofs.codes.Entries.{below_drop, below_at}
 use Rattle.bch.proofs.encoding.Division.{step, remainder, remainder_lt, remainder_drop}

@@ -1,11 +1,8 @@
 -- The register is the remainder of the bits behind the place, and so ends as that of the message. Assumes nothing.
-use Prim.Native.Nat.{◌-◌, ◌≤◌, ◌<◌, ◌^◌}
-use native.Mathlib.Omega.{arith}
-use mathlib.Core.Path.{◌≡◌, ap, ap₂, sym, ◌∙◌}
+use Prim.Native.Nat.{◌≤◌}
+use mathlib.Core.Path.{◌≡◌}
 use lib.ListN.{length, drop}
-use lib.Seq.{drop-length}
-use Rattle.bch.proofs.codes.Entries.{below_drop, below_at}
-use Rattle.bch.proofs.encoding.Division.{step, remainder, remainder_lt, remainder_drop}
+use Rattle.bch.proofs.encoding.Division.{remainder}
 use Rattle.encoder.proofs.division.parity.Given as goal
 
 abbrev pub invariant-loop-j : goal.invariant-loop-j

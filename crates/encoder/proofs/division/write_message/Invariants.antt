@@ -1,10 +1,8 @@
 -- The message is copied in behind the first r positions. Assumes nothing.
 use Prim.Native.Nat.{◌-◌, ◌≤◌}
-use native.Mathlib.Omega.{arith}
-use mathlib.Core.Path.{◌≡◌, refl}
-use lib.ListN.{length, length-set}
-use lib.Seq.{paste, paste-zero}
-use Rattle.bch.proofs.codes.Copies.{copied_more, copied_end}
+use mathlib.Core.Path.{◌≡◌}
+use lib.ListN.{length}
+use lib.Seq.{paste}
 use Rattle.encoder.proofs.division.write_message.Given as goal
 
 abbrev pub invariant-loop-i : goal.invariant-loop-i

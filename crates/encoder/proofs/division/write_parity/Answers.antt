@@ -1,12 +1,12 @@
 -- The register's bits are copied from the lowest on. What is left of it is halved at each. Assumes nothing.
-use Prim.Native.Nat.{ℕ, ◌-◌, ◌/◌, ◌%◌, ◌≤◌, ◌^◌}
+use Prim.Native.Nat.{ℕ, ◌/◌, ◌%◌}
 use native.Mathlib.Nat.{div-one}
 use native.Mathlib.Omega.{arith}
-use mathlib.Core.Path.{◌≡◌, refl, ap, sym, ◌∙◌}
+use mathlib.Core.Path.{refl, ap, sym, ◌∙◌}
 use mathlib.Core.List.{[]}
-use lib.ListN.{length, length-set}
+use lib.ListN.{length-set}
 use lib.Pow.{shr-shr}
-use lib.Seq.{paste, paste-zero}
+use lib.Seq.{paste-zero}
 use Rattle.bch.proofs.codes.Copies.{copied_more, copied_all}
 use Rattle.bch.proofs.encoding.Numbers.{word, length_word, word_at}
 use Rattle.encoder.proofs.division.write_parity.Goals as goal

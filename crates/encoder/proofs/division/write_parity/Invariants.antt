@@ -1,14 +1,9 @@
 -- The register's bits are copied from the lowest on. What is left of it is halved at each. Assumes nothing.
-use Prim.Native.Nat.{ℕ, ◌-◌, ◌/◌, ◌%◌, ◌≤◌, ◌^◌}
-use native.Mathlib.Nat.{div-one}
-use native.Mathlib.Omega.{arith}
-use mathlib.Core.Path.{◌≡◌, refl, ap, sym, ◌∙◌}
-use mathlib.Core.List.{[]}
-use lib.ListN.{length, length-set}
-use lib.Pow.{shr-shr}
-use lib.Seq.{paste, paste-zero}
-use Rattle.bch.proofs.codes.Copies.{copied_more, copied_all}
-use Rattle.bch.proofs.encoding.Numbers.{word, length_word, word_at}
+use Prim.Native.Nat.{◌-◌, ◌/◌, ◌≤◌, ◌^◌}
+use mathlib.Core.Path.{◌≡◌}
+use lib.ListN.{length}
+use lib.Seq.{paste}
+use Rattle.bch.proofs.encoding.Numbers.{word}
 use Rattle.encoder.proofs.division.write_parity.Given as goal
 
 abbrev pub invariant-loop-i : goal.invariant-loop-i

@@ -1,9 +1,5 @@
 -- What is counted and what is left to count are all that there are. Assumes nothing.
-use Prim.Native.Nat.{◌+◌, ◌-◌, ◌≤◌}
-use mathlib.Core.Path.{◌≡◌}
 use native.Mathlib.Omega.{arith}
-use lib.ListN.{length, drop}
-use Rattle.take_format.specs.Samples.{edges_at_most}
 use Rattle.take_format.proofs.quantisation.SampleSteps.{count_more, count_end}
 use Rattle.quantiser.proofs.edges.count.Goals as goal
 

@@ -1,10 +1,7 @@
 -- What is left rises above the last edge exactly where all rise. Assumes nothing.
-use Prim.Native.Nat.{◌-◌, ◌≤◌}
-use mathlib.Core.Path.{◌≡◌, refl, sym, ◌∙◌}
+use mathlib.Core.Path.{refl, sym, ◌∙◌}
 use native.Mathlib.Omega.{arith}
-use lib.ListN.{length, drop}
 use lib.Ieee.{of_bits}
-use Rattle.take_format.specs.Samples.{zero_level, rising}
 use Rattle.take_format.proofs.quantisation.SampleSteps.{rising_more, rising_not, rising_end}
 use Rattle.quantiser.proofs.edges.rise.Goals as goal
 

@@ -1,13 +1,8 @@
 -- What is left to check is refused as all is. Assumes nothing.
-use Prim.Native.Nat.{◌+◌, ◌-◌, ◌≤◌}
-use mathlib.Core.Path.{◌≡◌, refl, sym, ◌∙◌}
-use native.Mathlib.Omega.{arith}
-use mathlib.Core.Logic.{⊎_elim}
+use Prim.Native.Nat.{◌-◌, ◌≤◌}
+use mathlib.Core.Path.{◌≡◌}
 use lib.ListN.{length, drop}
 use Rattle.take_format.specs.Samples.{samples_check}
-use Rattle.take_format.proofs.quantisation.SampleSteps.{check_kind, check_nan, check_blank, check_heard, check_end}
-use Rattle.refusal.specs.Checked.{checked}
-use Rattle.quantiser.proofs.Bad.{bad_nan, not_bad}
 use Rattle.quantiser.proofs.samples.check.Given as goal
 
 abbrev pub invariant-loop-i : goal.invariant-loop-i

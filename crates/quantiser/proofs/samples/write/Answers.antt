@@ -1,9 +1,7 @@
 -- The symbols are written one after the other. Assumes nothing.
-use Prim.Native.Nat.{◌-◌, ◌≤◌}
-use mathlib.Core.Path.{◌≡◌, refl, ap, sym, ◌∙◌}
+use mathlib.Core.Path.{refl, ap, sym, ◌∙◌}
 use native.Mathlib.Omega.{arith}
-use lib.ListN.{length, length-set}
-use lib.Seq.{paste}
+use lib.ListN.{length-set}
 use Rattle.bch.proofs.codes.Copies.{copied_more, copied_end}
 use Rattle.take_format.specs.Samples.{quantised, symbol as Samples·symbol}
 use Rattle.take_format.proofs.quantisation.SampleLaws.{length_quantised}

@@ -1,13 +1,9 @@
 -- The symbols are written one after the other. Assumes nothing.
 use Prim.Native.Nat.{◌-◌, ◌≤◌}
-use mathlib.Core.Path.{◌≡◌, refl, ap, sym, ◌∙◌}
-use native.Mathlib.Omega.{arith}
-use lib.ListN.{length, length-set}
+use mathlib.Core.Path.{◌≡◌}
+use lib.ListN.{length}
 use lib.Seq.{paste}
-use Rattle.bch.proofs.codes.Copies.{copied_more, copied_end}
-use Rattle.take_format.specs.Samples.{quantised, symbol as Samples·symbol}
-use Rattle.take_format.proofs.quantisation.SampleLaws.{length_quantised}
-use Rattle.take_format.proofs.quantisation.SampleSteps.{quantised_at}
+use Rattle.take_format.specs.Samples.{quantised}
 use Rattle.quantiser.proofs.samples.write.Given as goal
 
 abbrev pub invariant-loop-i : goal.invariant-loop-i

@@ -1,9 +1,8 @@
 -- The zeros so far are written. Assumes nothing.
-use Prim.Native.Nat.{ℕ, ◌-◌, ◌≤◌}
+use Prim.Native.Nat.{ℕ}
 use native.Mathlib.Omega.{arith}
-use mathlib.Core.Path.{◌≡◌, refl, sym}
+use mathlib.Core.Path.{refl, sym}
 use lib.ListN.{length, replicate, length-set, length-replicate}
-use lib.Seq.{paste}
 use Rattle.galois.proofs.FieldTables.{zeros}
 use Rattle.bch.proofs.codes.Copies.{copied_more, copied_end}
 use Rattle.receiver.proofs.all_words.clear.Goals as goal

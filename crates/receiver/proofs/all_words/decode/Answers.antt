@@ -13,4 +13,4 @@ pub decode_all-requires : goal.decode_all-requires
 decode_all-requires c = record { filled = (c.fill_roots.ensures, c.requires.made.1); words_checked = c.requires.words_checked }
 
 pub returns : goal.returns
-returns c = record { result_value = c.decode_all.ensures.?whole.0; messages_after = c.decode_all.ensures.?whole.1.0; marks_after = c.decode_all.ensures.?whole.1.1 }
+returns c = record { result_value = c.decode_all.ensures.result_value; messages_after = c.decode_all.ensures.messages_after; marks_after = c.decode_all.ensures.marks_after }

@@ -1,9 +1,7 @@
 -- The bits so far are copied. Assumes nothing.
-use Prim.Native.Nat.{◌-◌, ◌≤◌}
 use native.Mathlib.Omega.{arith}
-use mathlib.Core.Path.{◌≡◌, refl}
-use lib.ListN.{length, length-set}
-use lib.Seq.{paste}
+use mathlib.Core.Path.{refl}
+use lib.ListN.{length-set}
 use Rattle.bch.proofs.codes.Copies.{copied_more, copied_end}
 use Rattle.receiver.proofs.hard_stage.copy.Goals as goal
 

@@ -1,10 +1,8 @@
 -- The bits so far are copied. Assumes nothing.
 use Prim.Native.Nat.{◌-◌, ◌≤◌}
-use native.Mathlib.Omega.{arith}
-use mathlib.Core.Path.{◌≡◌, refl}
-use lib.ListN.{length, length-set}
+use mathlib.Core.Path.{◌≡◌}
+use lib.ListN.{length}
 use lib.Seq.{paste}
-use Rattle.bch.proofs.codes.Copies.{copied_more, copied_end}
 use Rattle.receiver.proofs.hard_stage.copy.Given as goal
 
 abbrev pub invariant-loop-i : goal.invariant-loop-i

@@ -1,5 +1,4 @@
 -- What is located for the syndromes of the bits is where they are flipped. Assumes nothing.
--- what is added up are the syndromes of the bits
 use native.Mathlib.Omega.{arith}
 use mathlib.Core.Path.{◌≡◌, ap, ◌∙◌}
 use Rattle.bch.proofs.logarithms.LogAnswers.{syndromes_of, syndromes_in}
@@ -24,11 +23,8 @@ pub write-requires : goal.write-requires
 write-requires c =
     let summed : let a = c.args in c.syndromes-s.result ≡ syndromes_of (code_of a.c) a.bits.now = let a = c.args in
     c.syndromes-s.ensures ∙ ap (syndromes_of (code_of a.c)) (low_bits a.bits.now) in
-    let summed : let a = c.args in c.syndromes-s.result ≡ syndromes_of (code_of a.c) a.bits.now = let a = c.args in
-    c.syndromes-s.ensures ∙ ap (syndromes_of (code_of a.c)) (low_bits a.bits.now) in
-    record { bits_len = (let is = summed
-    (c.requires.bits_len, c.located-f.ensures c.args.bits.now c.requires.bits_len.0 c.requires.bits_len.2 is)).0; repairs = (let is = summed
-    (c.requires.bits_len, c.located-f.ensures c.args.bits.now c.requires.bits_len.0 c.requires.bits_len.2 is)).1 }
+    let is = summed in
+    record { bits_len = c.requires.bits_len; repairs = c.located-f.ensures c.args.bits.now c.requires.bits_len.0 c.requires.bits_len.2 is }
 
 pub returns : goal.returns
-returns c = record { result_value = c.write.ensures.?whole.0; codeword_after = c.write.ensures.?whole.1 }
+returns c = record { result_value = c.write.ensures.result_value; codeword_after = c.write.ensures.codeword_after }

@@ -1,10 +1,7 @@
 -- What is left to flip makes of the bits what all flips make of them. Assumes nothing.
-use Prim.Native.Nat.{◌-◌, ◌≤◌}
 use native.Mathlib.Omega.{arith}
-use mathlib.Core.Path.{◌≡◌, ◌∙◌}
-use lib.ListN.{length, take, drop}
-use Rattle.bch.specs.Words.{Bits}
-use Rattle.bch.proofs.codes.Behind.{flipped_from, length_from, bits_from}
+use mathlib.Core.Path.{◌∙◌}
+use Rattle.bch.proofs.codes.Behind.{length_from, bits_from}
 use Rattle.bch.proofs.logarithms.Repairs.{flip_more, flip_end}
 use Rattle.receiver.proofs.hard_stage.flip_at.Goals as goal
 

@@ -1,11 +1,9 @@
 -- What is left to flip makes of the bits what all flips make of them. Assumes nothing.
 use Prim.Native.Nat.{◌-◌, ◌≤◌}
-use native.Mathlib.Omega.{arith}
-use mathlib.Core.Path.{◌≡◌, ◌∙◌}
+use mathlib.Core.Path.{◌≡◌}
 use lib.ListN.{length, take, drop}
 use Rattle.bch.specs.Words.{Bits}
-use Rattle.bch.proofs.codes.Behind.{flipped_from, length_from, bits_from}
-use Rattle.bch.proofs.logarithms.Repairs.{flip_more, flip_end}
+use Rattle.bch.proofs.codes.Behind.{flipped_from}
 use Rattle.receiver.proofs.hard_stage.flip_at.Given as goal
 
 abbrev pub invariant-loop-i : goal.invariant-loop-i

@@ -1,5 +1,4 @@
 -- At most one error needs no roots. Assumes nothing.
--- one number that is syndromes, as a list
 use Prim.Native.Nat.{ℕ, ◌%◌, ◌<◌}
 use native.Mathlib.Omega.{arith}
 use mathlib.Core.Path.{◌≡◌, ap, sym, ◌∙◌, subst}
@@ -58,9 +57,9 @@ returns c =
     let t = c.fill_roots.ensures.tables in
     let f = c.next-e in
     let r = f.result.flips in
-    let e = next_one _ _ _ _ _ f.ensures.0 ∙ ap (rising_in k.m k.t k.n _) (sym (low c.args.s (omega arith))) in
+    let e = next_one _ _ _ _ _ f.ensures.sought ∙ ap (rising_in k.m k.t k.n _) (sym (low c.args.s (omega arith))) in
     λ xs long bits is. (
       repairs_in k lawful _ t xs long bits _ is r.found r.count r.at e,
-      λ z. found_placed k lawful _ t xs long bits _ is r.found r.count r.at e z f.ensures.1.1 f.ensures.1.0,
-      f.ensures.1.2,
+      λ z. found_placed k lawful _ t xs long bits _ is r.found r.count r.at e z f.ensures.at_len.1 f.ensures.at_len.0,
+      f.ensures.at_len.2,
     )

@@ -41,6 +41,9 @@ returns c =
     let p = c.requires.repairs.1 z in
     let room : f.count ≤ length f.at = omega (arith, p.few, p.long) in
     let h = found_answer (code_of a.c) a.bits.now f.found f.count f.at c.requires.repairs.0 z a.codeword.now in
-    record { result_value = ap₂ (λ (k : ℕ) (ps : List ℕ). record { case = found; count = k; places = ps }) (sym (length-take-le f.count f.at room)) c.requires.repairs.2
-          ∙ ap (λ (o : Option Repair). hard_record (inr o)) h.0; codeword_after = c.flip_at.ensures ∙ flipped_whole (take f.count f.at) _
-          ∙ ap (flipped_at (take f.count f.at)) c.copy.ensures ∙ h.1 }
+    record {
+      result_value = ap₂ (λ (k : ℕ) (ps : List ℕ). record { case = found; count = k; places = ps }) (sym (length-take-le f.count f.at room)) c.requires.repairs.2
+          ∙ ap (λ (o : Option Repair). hard_record (inr o)) h.0;
+      codeword_after = c.flip_at.ensures ∙ flipped_whole (take f.count f.at) _
+          ∙ ap (flipped_at (take f.count f.at)) c.copy.ensures ∙ h.1;
+    }

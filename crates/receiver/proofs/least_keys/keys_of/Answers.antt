@@ -9,7 +9,7 @@ returns c =
     let count = c.larger in
     let w = c.weakest in
     let p = c.requires in (
-      keys_deep count.result a.s.now w.result.at w.result.more w.ensures.0 w.ensures.1 a.d a.p
+      keys_deep count.result a.s.now w.result.at w.result.more w.ensures.at_value w.ensures.more_value a.d a.p
           (omega (arith, count.ensures)) p.0 p.1 (omega (arith, count.ensures)) p.4 p.5 (omega (arith, count.ensures)) p.3,
-      length_second count.result a.s.now w.result.at w.result.more w.ensures.0 w.ensures.1,
+      length_second count.result a.s.now w.result.at w.result.more w.ensures.at_value w.ensures.more_value,
     )

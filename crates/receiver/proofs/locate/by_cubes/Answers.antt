@@ -1,5 +1,4 @@
 -- D2's cube root by a third of its logarithm, and the next by a third of the period more. Assumes nothing.
--- ---- the exponents, for a period p and a logarithm l below it
 use Prim.Native.Nat.{ℕ, ◌+◌, ◌-◌, ◌/◌, ◌%◌, ◌^◌, ◌≤◌, ◌<◌}
 use mathlib.Core.Path.{◌≡◌, ap, sym, subst}
 use native.Mathlib.Omega.{arith}

@@ -1,5 +1,4 @@
 -- k, its two roots and the scale as the logarithms say; each sum of exponents is below eight periods. Assumes nothing.
--- ---- sums of exponents, for a period p and logarithms d and e below it
 use Prim.Native.Nat.{ℕ, ◌+◌, ◌-◌, ◌*◌, ◌/◌, ◌%◌, ◌^◌, ◌≤◌, ◌<◌}
 use mathlib.Core.Path.{◌≡◌, refl, ap, sym, subst}
 use native.Mathlib.Omega.{arith}
@@ -40,22 +39,6 @@ small s x most h = record { fits = omega arith }
 
 -- ---- the two logarithms, and the two roots
 
-module _ (o : tie.After-log-of2) where
-  d_lt : o.before.log-of.result < 2 ^ o.before.before.before.args.c.m - 1
-  d_lt = o.before.log-of.ensures.2 o.before.before.before.requires.4
-
-  e-lt : o.log-of2.result < 2 ^ o.before.before.before.args.c.m - 1
-  e-lt = o.log-of2.ensures.2 o.before.before.before.pre.6
-
-module _ (o : tie.Else1) where
-  two-lt : (o.before.roots_of.result % 1024 < 2 ^ o.before.before.before.before.before.before.before.args.c.m - 1)
-      × (o.before.roots_of.result / 1024 < 2 ^ o.before.before.before.before.before.before.before.args.c.m - 1)
-  two-lt =
-      let s = o.before.before.before.before.before.before.before in
-      let a = s.args in
-      roots_lt a.c.m a.c.t a.tables.now s.requires.0.tables s.requires.1 _ _ o.before.before.fold.ensures.1
-      o.before.roots_of.ensures o.if1.false
-
 pub log_of-ld-requires : goal.log_of-ld-requires
 log_of-ld-requires c = (c.requires.0.fielded, c.requires.3)
 
@@ -64,23 +47,35 @@ log_of-le-requires c = (c.requires.0.fielded, c.requires.5)
 
 pub overflow_mul-le : goal.overflow_mul-le
 overflow_mul-le c =
+    let d_lt : c.log_of-ld.result < 2 ^ c.args.c.m - 1 = c.log_of-ld.ensures.2 c.requires.4 in
+    let e-lt : c.log_of-le.result < 2 ^ c.args.c.m - 1 = c.log_of-le.ensures.2 c.requires.6 in
     let o = c in
     let s = o.before.before.before in
-    cube-fits _ _ _ _ s.requires.0.tables.size_most s.requires.0.fielded.made.is_period (d_lt o) (e-lt o)
+    cube-fits _ _ _ _ s.requires.0.tables.size_most s.requires.0.fielded.made.is_period (d_lt) (e-lt)
 
 pub overflow_sub-c : goal.overflow_sub-c
-overflow_sub-c c = below_period _ _ _ c.requires.0.fielded.made.is_period (d_lt o)
+overflow_sub-c c =
+    let d_lt : c.log_of-ld.result < 2 ^ c.args.c.m - 1 = c.log_of-ld.ensures.2 c.requires.4 in
+    below_period _ _ _ c.requires.0.fielded.made.is_period (d_lt)
 
 pub overflow_mul-c : goal.overflow_mul-c
-overflow_mul-c c = fifth-fits _ _ _ _ c.requires.0.tables.size_most c.requires.0.fielded.made.is_period (d_lt o) (e-lt o)
+overflow_mul-c c =
+    let d_lt : c.log_of-ld.result < 2 ^ c.args.c.m - 1 = c.log_of-ld.ensures.2 c.requires.4 in
+    let e-lt : c.log_of-le.result < 2 ^ c.args.c.m - 1 = c.log_of-le.ensures.2 c.requires.6 in
+    fifth-fits _ _ _ _ c.requires.0.tables.size_most c.requires.0.fielded.made.is_period (d_lt) (e-lt)
 
 pub overflow_add-le : goal.overflow_add-le
-overflow_add-le c = kappa-fits _ _ _ _ c.requires.0.tables.size_most c.requires.0.fielded.made.is_period (d_lt o) (e-lt o)
+overflow_add-le c =
+    let d_lt : c.log_of-ld.result < 2 ^ c.args.c.m - 1 = c.log_of-ld.ensures.2 c.requires.4 in
+    let e-lt : c.log_of-le.result < 2 ^ c.args.c.m - 1 = c.log_of-le.ensures.2 c.requires.6 in
+    kappa-fits _ _ _ _ c.requires.0.tables.size_most c.requires.0.fielded.made.is_period (d_lt) (e-lt)
 
 pub fold-k-requires : goal.fold-k-requires
 fold-k-requires c =
+    let d_lt : c.log_of-ld.result < 2 ^ c.args.c.m - 1 = c.log_of-ld.ensures.2 c.requires.4 in
+    let e-lt : c.log_of-le.result < 2 ^ c.args.c.m - 1 = c.log_of-le.ensures.2 c.requires.6 in
     let k = c.requires.0.fielded.made in
-    (k, kappa-lt _ _ _ _ k.size_most k.is_period (d_lt o) (e-lt o))
+    (k, kappa-lt _ _ _ _ k.size_most k.is_period (d_lt) (e-lt))
 
 pub roots_of-r-requires : goal.roots_of-r-requires
 roots_of-r-requires c = (c.requires.0, c.fold-k.ensures.1)
@@ -96,35 +91,73 @@ returns-then-r-lt1024 c =
     (q, e.1, e.2)
 
 pub overflow_mul-scale : goal.overflow_mul-scale
-overflow_mul-scale c = square-fits _ _ _ _ c.requires.0.tables.size_most c.requires.0.fielded.made.is_period (d_lt o) (e-lt o)
+overflow_mul-scale c =
+    let d_lt : c.log_of-ld.result < 2 ^ c.args.c.m - 1 = c.log_of-ld.ensures.2 c.requires.4 in
+    let e-lt : c.log_of-le.result < 2 ^ c.args.c.m - 1 = c.log_of-le.ensures.2 c.requires.6 in
+    square-fits _ _ _ _ c.requires.0.tables.size_most c.requires.0.fielded.made.is_period (d_lt) (e-lt)
 
 pub overflow_sub-scale : goal.overflow_sub-scale
-overflow_sub-scale c = below_period _ _ _ c.requires.0.fielded.made.is_period (e-lt o)
+overflow_sub-scale c =
+    let e-lt : c.log_of-le.result < 2 ^ c.args.c.m - 1 = c.log_of-le.ensures.2 c.requires.6 in
+    below_period _ _ _ c.requires.0.fielded.made.is_period (e-lt)
 
 pub overflow_add-scale : goal.overflow_add-scale
-overflow_add-scale c = scale-fits _ _ _ _ c.requires.0.tables.size_most c.requires.0.fielded.made.is_period (d_lt o) (e-lt o)
+overflow_add-scale c =
+    let d_lt : c.log_of-ld.result < 2 ^ c.args.c.m - 1 = c.log_of-ld.ensures.2 c.requires.4 in
+    let e-lt : c.log_of-le.result < 2 ^ c.args.c.m - 1 = c.log_of-le.ensures.2 c.requires.6 in
+    scale-fits _ _ _ _ c.requires.0.tables.size_most c.requires.0.fielded.made.is_period (d_lt) (e-lt)
 
 pub overflow_cast-r : goal.overflow_cast-r
-overflow_cast-r c = small _ _ c.requires.0.tables.size_most (two-lt c.before ?PLACE).0
+overflow_cast-r c =
+    let two-lt : (c.roots_of-r.result % 1024 < 2 ^ c.args.c.m - 1) × (c.roots_of-r.result / 1024 < 2 ^ c.args.c.m - 1) = let a = c.args in
+    roots_lt a.c.m a.c.t a.tables.now c.requires.0.tables c.requires.1 _ _ c.fold-k.ensures.1
+    c.roots_of-r.ensures c.if-r-lt1024.false in
+    small _ _ c.requires.0.tables.size_most (two-lt).0
 
 pub overflow_add-scale-2 : goal.overflow_add-scale-2
-overflow_add-scale-2 c = root_fits _ _ _ _ c.requires.0.tables.size_most c.requires.0.fielded.made.is_period (d_lt o) (e-lt o) _ (two-lt c.before ?PLACE).0
+overflow_add-scale-2 c =
+    let d_lt : c.log_of-ld.result < 2 ^ c.args.c.m - 1 = c.log_of-ld.ensures.2 c.requires.4 in
+    let e-lt : c.log_of-le.result < 2 ^ c.args.c.m - 1 = c.log_of-le.ensures.2 c.requires.6 in
+    let two-lt : (c.roots_of-r.result % 1024 < 2 ^ c.args.c.m - 1) × (c.roots_of-r.result / 1024 < 2 ^ c.args.c.m - 1) = let a = c.args in
+    roots_lt a.c.m a.c.t a.tables.now c.requires.0.tables c.requires.1 _ _ c.fold-k.ensures.1
+    c.roots_of-r.ensures c.if-r-lt1024.false in
+    root_fits _ _ _ _ c.requires.0.tables.size_most c.requires.0.fielded.made.is_period (d_lt) (e-lt) _ (two-lt).0
 
 pub fold-x-requires : goal.fold-x-requires
 fold-x-requires c =
+    let d_lt : c.log_of-ld.result < 2 ^ c.args.c.m - 1 = c.log_of-ld.ensures.2 c.requires.4 in
+    let e-lt : c.log_of-le.result < 2 ^ c.args.c.m - 1 = c.log_of-le.ensures.2 c.requires.6 in
+    let two-lt : (c.roots_of-r.result % 1024 < 2 ^ c.args.c.m - 1) × (c.roots_of-r.result / 1024 < 2 ^ c.args.c.m - 1) = let a = c.args in
+    roots_lt a.c.m a.c.t a.tables.now c.requires.0.tables c.requires.1 _ _ c.fold-k.ensures.1
+    c.roots_of-r.ensures c.if-r-lt1024.false in
     let k = c.requires.0.fielded.made in
-    (k, root-lt _ _ _ _ k.size_most k.is_period (d_lt o) (e-lt o) _ (two-lt c.before ?PLACE).0)
+    (k, root-lt _ _ _ _ k.size_most k.is_period (d_lt) (e-lt) _ (two-lt).0)
 
 pub overflow_cast-r-2 : goal.overflow_cast-r-2
-overflow_cast-r-2 c = small _ _ c.requires.0.tables.size_most (two-lt c.before.before ?PLACE).1
+overflow_cast-r-2 c =
+    let two-lt : (c.roots_of-r.result % 1024 < 2 ^ c.args.c.m - 1) × (c.roots_of-r.result / 1024 < 2 ^ c.args.c.m - 1) = let a = c.args in
+    roots_lt a.c.m a.c.t a.tables.now c.requires.0.tables c.requires.1 _ _ c.fold-k.ensures.1
+    c.roots_of-r.ensures c.if-r-lt1024.false in
+    small _ _ c.requires.0.tables.size_most (two-lt).1
 
 pub overflow_add-scale-3 : goal.overflow_add-scale-3
-overflow_add-scale-3 c = root_fits _ _ _ _ c.requires.0.tables.size_most c.requires.0.fielded.made.is_period (d_lt o) (e-lt o) _ (two-lt c.before.before ?PLACE).1
+overflow_add-scale-3 c =
+    let d_lt : c.log_of-ld.result < 2 ^ c.args.c.m - 1 = c.log_of-ld.ensures.2 c.requires.4 in
+    let e-lt : c.log_of-le.result < 2 ^ c.args.c.m - 1 = c.log_of-le.ensures.2 c.requires.6 in
+    let two-lt : (c.roots_of-r.result % 1024 < 2 ^ c.args.c.m - 1) × (c.roots_of-r.result / 1024 < 2 ^ c.args.c.m - 1) = let a = c.args in
+    roots_lt a.c.m a.c.t a.tables.now c.requires.0.tables c.requires.1 _ _ c.fold-k.ensures.1
+    c.roots_of-r.ensures c.if-r-lt1024.false in
+    root_fits _ _ _ _ c.requires.0.tables.size_most c.requires.0.fielded.made.is_period (d_lt) (e-lt) _ (two-lt).1
 
 pub fold-y-requires : goal.fold-y-requires
 fold-y-requires c =
+    let d_lt : c.log_of-ld.result < 2 ^ c.args.c.m - 1 = c.log_of-ld.ensures.2 c.requires.4 in
+    let e-lt : c.log_of-le.result < 2 ^ c.args.c.m - 1 = c.log_of-le.ensures.2 c.requires.6 in
+    let two-lt : (c.roots_of-r.result % 1024 < 2 ^ c.args.c.m - 1) × (c.roots_of-r.result / 1024 < 2 ^ c.args.c.m - 1) = let a = c.args in
+    roots_lt a.c.m a.c.t a.tables.now c.requires.0.tables c.requires.1 _ _ c.fold-k.ensures.1
+    c.roots_of-r.ensures c.if-r-lt1024.false in
     let k = c.requires.0.fielded.made in
-    (k, root-lt _ _ _ _ k.size_most k.is_period (d_lt o) (e-lt o) _ (two-lt c.before.before ?PLACE).1)
+    (k, root-lt _ _ _ _ k.size_most k.is_period (d_lt) (e-lt) _ (two-lt).1)
 
 pub powers_of-y1-requires : goal.powers_of-y1-requires
 powers_of-y1-requires c = (c.requires.0.fielded, folded_le _ _ c.fold-x.ensures.1)

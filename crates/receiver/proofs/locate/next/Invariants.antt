@@ -1,15 +1,7 @@
 -- Nothing is located for the words passed. Assumes nothing.
--- where nothing is located, nothing is found
-use Prim.Native.Nat.{ℕ, ◌-◌, ◌≤◌}
-use native.Mathlib.Omega.{arith}
-use mathlib.Core.Path.{◌≡◌, refl, ap, ◌∙◌}
-use mathlib.Core.Bool.{Bool, true, false}
-use mathlib.Core.List.{List}
-use mathlib.Core.Option.{none}
+use Prim.Native.Nat.{◌-◌, ◌≤◌}
 use lib.ListN.{length}
-use Rattle.bch.proofs.tables.Placing.{positions, length_three}
-use Rattle.bch.proofs.logarithms.LogLocator.{rising_in}
-use Rattle.bch.proofs.logarithms.Seeking.{Missed, missed_more, next_there, next_none}
+use Rattle.bch.proofs.logarithms.Seeking.{Missed}
 use Rattle.receiver.specs.Located.{located_at}
 use Rattle.receiver.proofs.locate.next.Given as goal
 

@@ -1,5 +1,4 @@
 -- Two roots by the logarithm of D2 / S1^3, as the steps by logarithms say. Assumes nothing.
--- ---- the sum of exponents, for a period p and logarithms l and d below it
 use Prim.Native.Nat.{ℕ, ◌+◌, ◌-◌, ◌*◌, ◌^◌, ◌≤◌, ◌<◌}
 use mathlib.Core.Path.{◌≡◌}
 use native.Mathlib.Omega.{arith}

@@ -1,5 +1,4 @@
 -- Test word 0, and then the others. Assumes nothing.
--- what is added up are the syndromes of the hard bits
 use Prim.Native.Nat.{ℕ, ◌^◌}
 use native.Mathlib.Omega.{arith}
 use mathlib.Core.Path.{◌≡◌, refl, ap, sym, ◌∙◌}

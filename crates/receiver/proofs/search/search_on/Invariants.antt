@@ -1,21 +1,12 @@
 -- Each weak position doubles the test words, and those that are new are tried. Assumes nothing.
-use Prim.Native.Nat.{ℕ, ◌+◌, ◌-◌, ◌*◌, ◌%◌, ◌^◌, ◌≤◌, ◌<◌}
-use native.Mathlib.Nat.{pow-succ'}
-use native.Mathlib.Numerals.{add-one}
-use native.Mathlib.Omega.{arith}
-use mathlib.Core.Path.{◌≡◌, refl, ap, sym, subst, ◌∙◌}
+use Prim.Native.Nat.{◌-◌, ◌^◌, ◌≤◌}
+use mathlib.Core.Path.{◌≡◌}
 use mathlib.Core.Bool.{false}
-use mathlib.Core.List.{List}
-use lib.ListN.{length, get_or, replicate}
-use lib.Seq.{length-take-le}
-use Rattle.chase.proofs.test_words.Doublings.{Doubled, Holds, size_most}
-use Rattle.chase.proofs.search.Ready.{packed_test, flipped_more, key_below, tests_first, tests_next, tests_small}
+use lib.ListN.{length}
+use Rattle.chase.proofs.test_words.Doublings.{Holds}
+use Rattle.chase.proofs.search.Ready.{packed_test}
 use Rattle.refusal.specs.Named.{code_of}
 use Rattle.receiver.specs.Search.{Tried}
-use Rattle.receiver.proofs.Turns.{test_words}
-use mir.Syntax.{w64}
-use mir.Val.{Fits}
-use Rattle.receiver.proofs.Outcomes.{no_bool}
 use Rattle.receiver.proofs.search.search_on.Given as goal
 
 abbrev pub invariant-loop-b : goal.invariant-loop-b
@@ -24,18 +15,3 @@ invariant-loop-b l = (l.b ≤ l.p) × (l.to ≡ 2 ^ l.b) × (length l.tests ≡ 
 
 abbrev pub decreases-loop-b : goal.decreases-loop-b
 decreases-loop-b l = l.p - l.b
-
--- ---- one weak position more: from `l.to` test words of l.b positions l.to twice as many, of l.p positions l.at most
-
-record Step (l.b l.p l.to : ℕ) : Type 0 where
-  more : l.b < l.p
-  next : l.b + 1 ≤ l.p
-  next_fits : Fits w64 (l.b + 1)
-  falls : l.p - (l.b + 1) < l.p - l.b
-  inside : l.b < 6
-  doubled : 2 * l.to ≡ 2 ^ (l.b + 1)
-  to-fits : Fits w64 (2 * l.to)
-  to-most : 2 * l.to ≤ 64
-  room : (n : ℕ) → n ≡ 64 → 2 * l.to ≤ n
-  tried : (k n : ℕ) → k ≤ 2 ^ l.b → n ≡ 2 * l.to → k ≤ n
-  grown : (k : ℕ) → k ≤ 2 ^ l.b → k ≤ 2 ^ (l.b + 1)

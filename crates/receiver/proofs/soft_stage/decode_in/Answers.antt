@@ -25,5 +25,5 @@ returns c =
     let a = c.args in
     let d = c.decode_word in
     let stage = soft_stage (code_of a.c) a.p a.s.now in
-    let written = d.ensures.1 ∙ written_whole stage a.codeword.now in
-    record { codeword_after = answer_told a.p a.s.now a.codeword.now d.result _ stage c.tell.result written d.ensures.0.0 c.tell.ensures; codeword_after_2 = written }
+    let written = d.ensures.out_after ∙ written_whole stage a.codeword.now in
+    record { codeword_after = answer_told a.p a.s.now a.codeword.now d.result _ stage c.tell.result written d.ensures.result_value.0 c.tell.ensures; codeword_after_2 = written }

@@ -9,6 +9,7 @@ use Rattle.chase.specs.Soft.{Answer}
 use Rattle.chase.proofs.search.Ready.{Deep}
 use Rattle.receiver.specs.Search.{written_from}
 use Rattle.receiver.proofs.Tellings.{written_none, written_some}
+use mathlib.Core.Bool.{not}
 use Rattle.receiver.proofs.soft_stage.decode_word.Goals as goal
 
 pub keys_of-keys-requires : goal.keys_of-keys-requires
@@ -38,8 +39,11 @@ returns-then-not-found c =
     let a = c.args in
     let o = c.search-o in
     let old = a.out.now in
-    record { result_value = o.ensures; out_after = written_none a.p a.s.now a.from o.result old (not-true _ c.if-not-found.true)
-          ∙ ap (λ (x : Answer). written_from a.from x old) o.ensures.0 }
+    record {
+      result_value = o.ensures;
+      out_after = written_none a.p a.s.now a.from o.result old (not-true _ (ap not c.if-not-found.true))
+          ∙ ap (λ (x : Answer). written_from a.from x old) o.ensures.0;
+    }
 
 pub write_word-requires : goal.write_word-requires
 write_word-requires c = record { ready = c.keys_of-keys.ensures.0.ready; out_value = (c.requires.4 ∙ sym c.requires.2, rw c.requires.2 c.search-o.ensures.1.placed) }
@@ -49,6 +53,9 @@ returns c =
     let a = c.args in
     let o = c.search-o in
     let old = a.out.now in
-    record { result_value = o.ensures; out_after = c.write_word.ensures
-          ∙ written_some a.p a.s.now a.from o.result old (not-false _ c.if-not-found.false)
-          ∙ ap (λ (x : Answer). written_from a.from x old) o.ensures.0 }
+    record {
+      result_value = o.ensures;
+      out_after = c.write_word.ensures
+          ∙ written_some a.p a.s.now a.from o.result old (not-false _ (ap not c.if-not-found.false))
+          ∙ ap (λ (x : Answer). written_from a.from x old) o.ensures.0;
+    }

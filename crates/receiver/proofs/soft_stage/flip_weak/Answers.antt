@@ -1,17 +1,16 @@
 -- What is left of j, over the weak positions left, makes of the bits what j makes of them over all. Assumes nothing.
--- each weak position is one of the word's
-use Prim.Native.Nat.{ℕ, ◌-◌, ◌%◌, ◌≤◌, ◌<◌}
+use Prim.Native.Nat.{ℕ, ◌%◌, ◌≤◌, ◌<◌}
 use native.Mathlib.Omega.{arith}
-use mathlib.Core.Path.{◌≡◌, refl, ap, sym, ◌∙◌}
-use mathlib.Core.Logic.{⊎_elim}
+use mathlib.Core.Path.{refl, ap, sym, ◌∙◌}
 use mathlib.Core.List.{List}
-use lib.ListN.{length, get_or, drop}
-use Rattle.bch.specs.Words.{Bits, Distinct}
+use lib.ListN.{length, get_or}
+use Rattle.bch.specs.Words.{Distinct}
 use Rattle.bch.proofs.codes.Behind.{flipped_from, length_from, bits_from}
 use Rattle.bch.proofs.codes.Flipped.{distinct_at}
 use Rattle.chase.proofs.search.Ready.{places_of, long_places, at_places}
-use Rattle.chase.proofs.test_words.TestWords.{chosen, chosen_next, chosen_past, chosen_over}
+use Rattle.chase.proofs.test_words.TestWords.{chosen_next, chosen_past, chosen_over}
 use Rattle.receiver.proofs.soft_stage.flip_weak.Goals as goal
+use Rattle.receiver.proofs.soft_stage.flip_weak.Goals.{then-r-eq1, else-r-eq1}
 
 weak-below : (n k p : ℕ) (ks : List ℕ) → Distinct n (places_of ks p) → k < p → p ≤ length ks → get_or ks k 0 % 1024 < n
 weak-below n k p ks d h l =
@@ -48,15 +47,21 @@ loop-k-preserved c =
     let ws = places_of ks p in
     let h : l.k < length ws = omega (arith, long_places ks p (omega arith)) in
     let flipped : List ℕ → List ℕ = λ P. flipped_from from P l.out in
-    ⊎_elim
-    (λ w. rw (w.6, w.3.ensures) (
-      omega arith,
-      length_from from w.2.result l.out ∙ l.invariant.1,
-      bits_from from w.2.result l.out l.invariant.2,
-      rw (w.2.ensures, ← at_places ks p l.k (omega arith)) (sym (ap flipped (chosen_next l.r l.k ws h w.0.taken)) ∙ l.invariant.3),
-    ))
-    (λ w. rw w.1 (omega arith, l.invariant.1, l.invariant.2, sym (ap flipped (chosen_past l.r l.k ws h w.0.left)) ∙ l.invariant.3))
-    c.if-r-eq1.branch
+    elim c.if-r-eq1.branch [
+      | then-r-eq1 w ↦ rw (w.out-is, w.flip.ensures) (
+        omega arith,
+        length_from from w.place_of.result l.out ∙ l.invariant.1,
+        bits_from from w.place_of.result l.out l.invariant.2,
+        rw (w.place_of.ensures, ← at_places ks p l.k (omega arith))
+            (sym (ap flipped (chosen_next l.r l.k ws h w.if-r-eq1.true)) ∙ l.invariant.3),
+      )
+      | else-r-eq1 w ↦ rw w.out-is (
+        omega arith,
+        l.invariant.1,
+        l.invariant.2,
+        sym (ap flipped (chosen_past l.r l.k ws h w.if-r-eq1.false)) ∙ l.invariant.3,
+      )
+    ]
 
 pub returns : goal.returns
 unfolding flipped_from

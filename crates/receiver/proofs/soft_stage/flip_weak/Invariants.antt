@@ -1,16 +1,11 @@
 -- What is left of j, over the weak positions left, makes of the bits what j makes of them over all. Assumes nothing.
--- each weak position is one of the word's
-use Prim.Native.Nat.{ℕ, ◌-◌, ◌%◌, ◌≤◌, ◌<◌}
-use native.Mathlib.Omega.{arith}
-use mathlib.Core.Path.{◌≡◌, refl, ap, sym, ◌∙◌}
-use mathlib.Core.Logic.{⊎_elim}
-use mathlib.Core.List.{List}
-use lib.ListN.{length, get_or, drop}
-use Rattle.bch.specs.Words.{Bits, Distinct}
-use Rattle.bch.proofs.codes.Behind.{flipped_from, length_from, bits_from}
-use Rattle.bch.proofs.codes.Flipped.{distinct_at}
-use Rattle.chase.proofs.search.Ready.{places_of, long_places, at_places}
-use Rattle.chase.proofs.test_words.TestWords.{chosen, chosen_next, chosen_past, chosen_over}
+use Prim.Native.Nat.{◌-◌, ◌≤◌}
+use mathlib.Core.Path.{◌≡◌}
+use lib.ListN.{length, drop}
+use Rattle.bch.specs.Words.{Bits}
+use Rattle.bch.proofs.codes.Behind.{flipped_from}
+use Rattle.chase.proofs.search.Ready.{places_of}
+use Rattle.chase.proofs.test_words.TestWords.{chosen}
 use Rattle.receiver.proofs.soft_stage.flip_weak.Given as goal
 
 abbrev pub invariant-loop-k : goal.invariant-loop-k

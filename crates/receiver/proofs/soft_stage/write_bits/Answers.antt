@@ -1,10 +1,10 @@
 -- The bits so far are the hard bits of their symbols. Assumes nothing.
-use Prim.Native.Nat.{ℕ, ◌+◌, ◌-◌, ◌/◌, ◌≤◌}
+use Prim.Native.Nat.{ℕ, ◌+◌, ◌/◌}
 use native.Mathlib.Omega.{arith}
-use mathlib.Core.Path.{◌≡◌, refl}
+use mathlib.Core.Path.{refl}
 use borrow.Author.Count.{below_none}
-use lib.ListN.{length, get_or, length-set}
-use Rattle.chase.proofs.test_words.Doublings.{Holds, holds_more}
+use lib.ListN.{get_or, length-set}
+use Rattle.chase.proofs.test_words.Doublings.{holds_more}
 use Rattle.chase.proofs.test_words.TestWords.{hard_filled}
 use Rattle.receiver.proofs.soft_stage.write_bits.Goals as goal
 

@@ -1,11 +1,8 @@
 -- The bits so far are the hard bits of their symbols. Assumes nothing.
 use Prim.Native.Nat.{ℕ, ◌+◌, ◌-◌, ◌/◌, ◌≤◌}
-use native.Mathlib.Omega.{arith}
-use mathlib.Core.Path.{◌≡◌, refl}
-use borrow.Author.Count.{below_none}
-use lib.ListN.{length, get_or, length-set}
-use Rattle.chase.proofs.test_words.Doublings.{Holds, holds_more}
-use Rattle.chase.proofs.test_words.TestWords.{hard_filled}
+use mathlib.Core.Path.{◌≡◌}
+use lib.ListN.{length, get_or}
+use Rattle.chase.proofs.test_words.Doublings.{Holds}
 use Rattle.receiver.proofs.soft_stage.write_bits.Given as goal
 
 abbrev pub invariant-loop-i : goal.invariant-loop-i

@@ -42,7 +42,7 @@ flip_at-requires c =
     let w = c.write_bits in
     let f = c.flip_weak in
     let P = chosen a.j (places_of a.keys.at a.p) in
-    let ys = w.new.1.1.0 in
+    let ys = w.new.out in
     let long : a.from + length ys ≡ length a.s.now = as_long a.s.now a.from ys w.ensures (omega (arith, c.requires.out_value.0)) in (
       rw f.ensures (bits_flipped_from a.from P ys (are_bits a.s.now a.from ys w.ensures c.requires.ready.symbols)),
       rw (ap length f.ensures ∙ length_flipped_from a.from P ys, long) c.requires.out_value.1,

@@ -1,7 +1,7 @@
 -- Below i the powers hold what is added, from i on what they held; e is d i less whole periods. Assumes nothing.
 use Prim.Native.Nat.{ℕ, ◌+◌, ◌-◌, ◌*◌, ◌%◌, ◌^◌, ◌≤◌, ◌<◌, min}
 use mathlib.Core.Path.{◌≡◌, refl, ap, subst, sym, ◌∙◌}
-use mathlib.Core.Logic.{◌⊎◌, inl, inr}
+use mathlib.Core.Logic.{inl, inr}
 use native.Mathlib.Nat.{mul-le-mul, le_refl}
 use native.Mathlib.Omega.{arith}
 use lib.ListN.{length, get_or, set, length-set}
@@ -10,7 +10,7 @@ use mir.Val.{Fits}
 use Rattle.galois.specs.Field.{alpha}
 use Rattle.galois.proofs.Primitive.{Primitive, primitive_5_10}
 use Rattle.bch.proofs.tables.TableFills.{FieldPart, stage, stage_low, mixed, mixed_none, mixed_here, mixed_more, mixed_all}
-use Rattle.bch.proofs.tables.TableLoops.{Turn, TurnIn, turn_none, turn_in, turn_inside, turn_more, turn_out, turn_power}
+use Rattle.bch.proofs.tables.TableLoops.{Turn, turn_none, turn_in, turn_inside, turn_more, turn_out, turn_power}
 use Rattle.receiver.proofs.Places.{near, power_at, power_fits, power_scaled, step_fits, falls, goes_on, wrapped, ended, fell}
 use Rattle.receiver.proofs.tables.add_powers.Goals as goal
 
@@ -39,44 +39,6 @@ stages t l u = (omega arith, omega arith, omega arith)
 
 -- ---- at the inner loop's test, in the period: i is below it too
 
-module _
-    (o : tie.At-loop2 invariant-loop2 decreases-loop2 invariant-loop decreases-loop)
-    (h : o.loop2.e < o.before.before.before.before.before.args.c.period) where
-  g : Primitive o.before.before.before.before.before.args.c.m
-  g = let k = o.before.before.before.before.before.requires.0.lawful in primitive_5_10 _ k.m_least k.m_most
-
-  e-lt : o.loop2.e < 2 ^ o.before.before.before.before.before.args.c.m - 1
-  e-lt = subst (λ (p : ℕ). o.loop2.e < p) o.before.before.before.before.before.pre.0.is_period h
-
-  i_lt : o.loop2.i < 2 ^ o.before.before.before.before.before.args.c.m - 1
-  i_lt = turn_inside _ o.before.before.before.before.before.args.d o.loop2.i o.loop2.e e-lt o.loop2.inv.5
-
-  i-at : o.before.before.before.before.before.args.c.powers + o.loop2.i < length o.loop2.tables
-  i-at = power_at _ _ _ _ o.before.before.before.before.before.pre.0.is_powers i_lt o.loop2.inv.6.long
-
-  i-scaled : Fits w64 ((o.before.before.before.before.before.args.c.powers + o.loop2.i) * 4)
-  i-scaled = let k = o.before.before.before.before.before.pre.0 in power_scaled _ _ _ k.size_most k.is_powers (near _ _ i_lt)
-
-  i-fits : Fits w64 (o.before.before.before.before.before.args.c.powers + o.loop2.i)
-  i-fits = let k = o.before.before.before.before.before.pre.0 in power_fits _ _ _ k.size_most k.is_powers (near _ _ i_lt)
-
-  -- the entry at i still holds what it held, which is below the scale
-  entry_lt : get_or o.loop2.tables (o.before.before.before.before.before.args.c.powers + o.loop2.i) 0
-      < o.before.before.before.before.before.args.scale
-  entry_lt =
-      let s = o.before.before.before.before.before in
-      let a = s.args in
-      let m = a.c.m in
-      let l = o.loop2 in
-      subst (λ (x : ℕ). x < a.scale)
-      (sym
-      (ap (λ (p : ℕ). get_or l.tables (p + l.i) 0) s.pre.0.is_powers
-      ∙ mixed_here m (stage m a.t) (stage m (a.t + 1)) l.tables l.i i_lt l.inv.6))
-      (s.pre.1.low l.i)
-
--- ?? same_length : tie.Need-same-length invariant-loop2 decreases-loop2 invariant-loop decreases-loop
--- ?? same_length c = c.before.loop.invariant.2
-
 pub returns-then-c-t : goal.returns-then-c-t
 returns-then-c-t c =
     let a = c.args in
@@ -102,63 +64,103 @@ loop-e-init c =
 
 pub overflow_add-x : goal.overflow_add-x
 overflow_add-x c =
+    let e-lt : (h : c.loop-e.e < c.args.c.period) → c.loop-e.e < 2 ^ c.args.c.m - 1 = λ h. subst (λ (p : ℕ). c.loop-e.e < p) c.requires.0.is_period h in
     let k = c.requires.0 in
-    power_fits _ _ _ k.size_most k.is_powers (near _ _ (e-lt c.before.before ?PLACE c.loop-e-test.true))
+    power_fits _ _ _ k.size_most k.is_powers (near _ _ (e-lt c.loop-e-test.true))
 
 pub offset_bounds-tables-c : goal.offset_bounds-tables-c
 offset_bounds-tables-c c =
+    let e-lt : (h : c.loop-e.e < c.args.c.period) → c.loop-e.e < 2 ^ c.args.c.m - 1 = λ h. subst (λ (p : ℕ). c.loop-e.e < p) c.requires.0.is_period h in
     let k = c.requires.0 in
-    power_scaled _ _ _ k.size_most k.is_powers (near _ _ (e-lt c.before.before ?PLACE c.loop-e-test.true))
+    power_scaled _ _ _ k.size_most k.is_powers (near _ _ (e-lt c.loop-e-test.true))
 
 pub bounds-tables-c : goal.bounds-tables-c
-bounds-tables-c c = power_at _ _ _ _ c.requires.0.is_powers (e-lt o c.loop-e-test.true) c.loop-e.invariant.6.long
+bounds-tables-c c =
+    let e-lt : (h : c.loop-e.e < c.args.c.period) → c.loop-e.e < 2 ^ c.args.c.m - 1 = λ h. subst (λ (p : ℕ). c.loop-e.e < p) c.requires.0.is_period h in
+    power_at _ _ _ _ c.requires.0.is_powers (e-lt c.loop-e-test.true) c.loop-e.invariant.6.long
 
 pub overflow_mul-tables : goal.overflow_mul-tables
 overflow_mul-tables c = product-fits _ _ c.requires.1.room
 
 pub overflow_add-tables : goal.overflow_add-tables
-overflow_add-tables c = i-fits c.before.before.before.before ?PLACE c.loop-e-test.true
+overflow_add-tables c =
+    let e-lt : (h : c.loop-e.e < c.args.c.period) → c.loop-e.e < 2 ^ c.args.c.m - 1 = λ h. subst (λ (p : ℕ). c.loop-e.e < p) c.requires.0.is_period h in
+    let i_lt : (h : c.loop-e.e < c.args.c.period) → c.loop-e.i < 2 ^ c.args.c.m - 1 = λ h. turn_inside _ c.args.d c.loop-e.i c.loop-e.e (e-lt h) c.loop-e.invariant.5 in
+    let i-fits : (h : c.loop-e.e < c.args.c.period) → Fits w64 (c.args.c.powers + c.loop-e.i) = λ h. let k = c.requires.0 in power_fits _ _ _ k.size_most k.is_powers (near _ _ (i_lt h)) in
+    i-fits c.loop-e-test.true
 
 pub offset_bounds-tables-c-in-loop-e : goal.offset_bounds-tables-c-in-loop-e
-offset_bounds-tables-c-in-loop-e c = i-scaled c.before.before.before.before ?PLACE c.loop-e-test.true
+offset_bounds-tables-c-in-loop-e c =
+    let e-lt : (h : c.loop-e.e < c.args.c.period) → c.loop-e.e < 2 ^ c.args.c.m - 1 = λ h. subst (λ (p : ℕ). c.loop-e.e < p) c.requires.0.is_period h in
+    let i_lt : (h : c.loop-e.e < c.args.c.period) → c.loop-e.i < 2 ^ c.args.c.m - 1 = λ h. turn_inside _ c.args.d c.loop-e.i c.loop-e.e (e-lt h) c.loop-e.invariant.5 in
+    let i-scaled : (h : c.loop-e.e < c.args.c.period) → Fits w64 ((c.args.c.powers + c.loop-e.i) * 4) = λ h. let k = c.requires.0 in power_scaled _ _ _ k.size_most k.is_powers (near _ _ (i_lt h)) in
+    i-scaled c.loop-e-test.true
 
 pub bounds-tables-c-in-loop-e : goal.bounds-tables-c-in-loop-e
-bounds-tables-c-in-loop-e c = i-at c.before.before.before.before.before ?PLACE c.loop-e-test.true
+bounds-tables-c-in-loop-e c =
+    let e-lt : (h : c.loop-e.e < c.args.c.period) → c.loop-e.e < 2 ^ c.args.c.m - 1 = λ h. subst (λ (p : ℕ). c.loop-e.e < p) c.requires.0.is_period h in
+    let i_lt : (h : c.loop-e.e < c.args.c.period) → c.loop-e.i < 2 ^ c.args.c.m - 1 = λ h. turn_inside _ c.args.d c.loop-e.i c.loop-e.e (e-lt h) c.loop-e.invariant.5 in
+    let i-at : (h : c.loop-e.e < c.args.c.period) → c.args.c.powers + c.loop-e.i < length c.loop-e.tables = λ h. power_at _ _ _ _ c.requires.0.is_powers (i_lt h) c.loop-e.invariant.6.long in
+    i-at c.loop-e-test.true
 
 pub overflow_add-tables-in-loop-e : goal.overflow_add-tables-in-loop-e
-overflow_add-tables-in-loop-e c = sum_fits _ _ _ (entry_lt o c.loop-e-test.true) c.requires.1.room
+overflow_add-tables-in-loop-e c =
+    let e-lt : (h : c.loop-e.e < c.args.c.period) → c.loop-e.e < 2 ^ c.args.c.m - 1 = λ h. subst (λ (p : ℕ). c.loop-e.e < p) c.requires.0.is_period h in
+    let i_lt : (h : c.loop-e.e < c.args.c.period) → c.loop-e.i < 2 ^ c.args.c.m - 1 = λ h. turn_inside _ c.args.d c.loop-e.i c.loop-e.e (e-lt h) c.loop-e.invariant.5 in
+    let entry_lt : (h : c.loop-e.e < c.args.c.period) → get_or c.loop-e.tables (c.args.c.powers + c.loop-e.i) 0 < c.args.scale = λ h. let a = c.args in
+    let m = a.c.m in
+    let l = c.loop-e in
+    subst (λ (x : ℕ). x < a.scale)
+    (sym
+    (ap (λ (p : ℕ). get_or l.tables (p + l.i) 0) c.requires.0.is_powers
+    ∙ mixed_here m (stage m a.t) (stage m (a.t + 1)) l.tables l.i (i_lt h) l.invariant.6))
+    (c.requires.1.low l.i) in
+    sum_fits _ _ _ (entry_lt c.loop-e-test.true) c.requires.1.room
 
 pub bounds-tables-c-in-loop-e-2 : goal.bounds-tables-c-in-loop-e-2
-bounds-tables-c-in-loop-e-2 c = i-at c.before.before.before.before.before ?PLACE c.loop-e-test.true
+bounds-tables-c-in-loop-e-2 c =
+    let e-lt : (h : c.loop-e.e < c.args.c.period) → c.loop-e.e < 2 ^ c.args.c.m - 1 = λ h. subst (λ (p : ℕ). c.loop-e.e < p) c.requires.0.is_period h in
+    let i_lt : (h : c.loop-e.e < c.args.c.period) → c.loop-e.i < 2 ^ c.args.c.m - 1 = λ h. turn_inside _ c.args.d c.loop-e.i c.loop-e.e (e-lt h) c.loop-e.invariant.5 in
+    let i-at : (h : c.loop-e.e < c.args.c.period) → c.args.c.powers + c.loop-e.i < length c.loop-e.tables = λ h. power_at _ _ _ _ c.requires.0.is_powers (i_lt h) c.loop-e.invariant.6.long in
+    i-at c.loop-e-test.true
 
 pub overflow_add-e : goal.overflow_add-e
 overflow_add-e c =
-    let h = e-lt o c.loop-e-test.true in
+    let e-lt : (h : c.loop-e.e < c.args.c.period) → c.loop-e.e < 2 ^ c.args.c.m - 1 = λ h. subst (λ (p : ℕ). c.loop-e.e < p) c.requires.0.is_period h in
+    let h = e-lt c.loop-e-test.true in
     step_fits _ _ _ c.requires.0.size_most (near _ _ h) (few _ c.requires.1.d_most)
 
 pub overflow_add-i : goal.overflow_add-i
 overflow_add-i c =
-    let h = i_lt o c.loop-e-test.true in
+    let e-lt : (h : c.loop-e.e < c.args.c.period) → c.loop-e.e < 2 ^ c.args.c.m - 1 = λ h. subst (λ (p : ℕ). c.loop-e.e < p) c.requires.0.is_period h in
+    let i_lt : (h : c.loop-e.e < c.args.c.period) → c.loop-e.i < 2 ^ c.args.c.m - 1 = λ h. turn_inside _ c.args.d c.loop-e.i c.loop-e.e (e-lt h) c.loop-e.invariant.5 in
+    let h = i_lt c.loop-e-test.true in
     step_fits _ _ 1 c.requires.0.size_most (near _ _ h) (omega arith)
 
 pub loop-e-smaller : goal.loop-e-smaller
-loop-e-smaller c = falls _ _ (i_lt c.before.before.before.before.before ?PLACE c.loop-e-test.true)
+loop-e-smaller c =
+    let e-lt : (h : c.loop-e.e < c.args.c.period) → c.loop-e.e < 2 ^ c.args.c.m - 1 = λ h. subst (λ (p : ℕ). c.loop-e.e < p) c.requires.0.is_period h in
+    let i_lt : (h : c.loop-e.e < c.args.c.period) → c.loop-e.i < 2 ^ c.args.c.m - 1 = λ h. turn_inside _ c.args.d c.loop-e.i c.loop-e.e (e-lt h) c.loop-e.invariant.5 in
+    falls _ _ (i_lt c.loop-e-test.true)
 
 pub loop-e-preserved : goal.loop-e-preserved
 loop-e-preserved c =
+    let g : (h : c.loop-e.e < c.args.c.period) → Primitive c.args.c.m = λ h. let k = c.requires.0.lawful in primitive_5_10 _ k.m_least k.m_most in
+    let e-lt : (h : c.loop-e.e < c.args.c.period) → c.loop-e.e < 2 ^ c.args.c.m - 1 = λ h. subst (λ (p : ℕ). c.loop-e.e < p) c.requires.0.is_period h in
+    let i_lt : (h : c.loop-e.e < c.args.c.period) → c.loop-e.i < 2 ^ c.args.c.m - 1 = λ h. turn_inside _ c.args.d c.loop-e.i c.loop-e.e (e-lt h) c.loop-e.invariant.5 in
     let a = c.args in
     let m = a.c.m in
     let l = c.loop-e in
     let u = c.requires.1 in
     let h = c.loop-e-test.true in
     let low : (v : ℕ) → 1 ≤ v → v ≤ 3 → (j : ℕ) → j < 2 ^ m - 1 → stage m v j % 1024 ≡ alpha m j =
-    λ v x y j z. stage_low m (g o h) c.requires.0.lawful.m_most j v x y in
-    let same_turn = turn_power m (g o h) a.d l.i l.e (record { turns = l.invariant.5.turns; sum = l.invariant.5.sum }) in
+    λ v x y j z. stage_low m (g h) c.requires.0.lawful.m_most j v x y in
+    let same_turn = turn_power m (g h) a.d l.i l.e (record { turns = l.invariant.5.turns; sum = l.invariant.5.sum }) in
     let t = stages _ u.some u.few in
     let added =
-    mixed_more m (stage m a.t) (stage m (a.t + 1)) l.tables a.d a.scale l.i l.e (i_lt o h) (e-lt o h) same_turn
+    mixed_more m (stage m a.t) (stage m (a.t + 1)) l.tables a.d a.scale l.i l.e (i_lt h) (e-lt h) same_turn
     (low a.t u.some t.0) (low (a.t + 1) t.1 t.2) (λ j z. u.sum j) l.invariant.6 in
-    let more = goes_on _ a.d _ _ _ l.invariant.1 (i_lt o h) (e-lt o h) in (
+    let more = goes_on _ a.d _ _ _ l.invariant.1 (i_lt h) (e-lt h) in (
       more.1,
       more.2,
       more.3,

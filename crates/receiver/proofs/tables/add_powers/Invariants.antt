@@ -1,17 +1,10 @@
 -- Below i the powers hold what is added, from i on what they held; e is d i less whole periods. Assumes nothing.
-use Prim.Native.Nat.{ℕ, ◌+◌, ◌-◌, ◌*◌, ◌%◌, ◌^◌, ◌≤◌, ◌<◌, min}
-use mathlib.Core.Path.{◌≡◌, refl, ap, subst, sym, ◌∙◌}
-use mathlib.Core.Logic.{◌⊎◌, inl, inr}
-use native.Mathlib.Nat.{mul-le-mul, le_refl}
-use native.Mathlib.Omega.{arith}
-use lib.ListN.{length, get_or, set, length-set}
-use mir.Syntax.{w32, w64}
-use mir.Val.{Fits}
-use Rattle.galois.specs.Field.{alpha}
-use Rattle.galois.proofs.Primitive.{Primitive, primitive_5_10}
-use Rattle.bch.proofs.tables.TableFills.{FieldPart, stage, stage_low, mixed, mixed_none, mixed_here, mixed_more, mixed_all}
-use Rattle.bch.proofs.tables.TableLoops.{Turn, TurnIn, turn_none, turn_in, turn_inside, turn_more, turn_out, turn_power}
-use Rattle.receiver.proofs.Places.{near, power_at, power_fits, power_scaled, step_fits, falls, goes_on, wrapped, ended, fell}
+use Prim.Native.Nat.{◌+◌, ◌-◌, ◌^◌, ◌≤◌, ◌<◌}
+use mathlib.Core.Path.{◌≡◌}
+use mathlib.Core.Logic.{◌⊎◌}
+use lib.ListN.{length}
+use Rattle.bch.proofs.tables.TableFills.{FieldPart, stage, mixed}
+use Rattle.bch.proofs.tables.TableLoops.{Turn, TurnIn}
 use Rattle.receiver.proofs.tables.add_powers.Given as goal
 
 abbrev pub invariant-loop-e : goal.invariant-loop-e
@@ -35,5 +28,3 @@ invariant-loop-i l = (l.i ≤ 2 ^ l.c.m - 1)
 
 abbrev pub decreases-loop-i : goal.decreases-loop-i
 decreases-loop-i l = 2 ^ l.c.m - 1 - l.i
-
--- ---- what is added fits

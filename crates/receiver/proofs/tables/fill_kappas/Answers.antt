@@ -1,52 +1,17 @@
 -- Roots l below the loop's are written; e is 3 l less whole periods, so that it is the place's exponent. Assumes nothing.
-use Prim.Native.Nat.{ℕ, ◌+◌, ◌-◌, ◌*◌, ◌%◌, ◌^◌, ◌≤◌, ◌<◌}
+use Prim.Native.Nat.{ℕ, ◌+◌, ◌-◌, ◌*◌, ◌%◌, ◌^◌, ◌<◌}
 use mathlib.Core.Path.{◌≡◌, refl, ap, ap₂, subst, subst₂, sym, ◌∙◌}
-use mathlib.Core.Logic.{◌⊎◌, inl, inr}
+use mathlib.Core.Logic.{inl, inr}
 use native.Mathlib.Omega.{arith}
-use lib.ListN.{length, get_or, length-set}
+use lib.ListN.{get_or, length-set}
 use lib.Bits.{bit_xor}
 use Rattle.galois.proofs.Primitive.{Primitive, primitive_5_10}
 use Rattle.bch.proofs.tables.CodeTables.{TrioRoots, roots_in}
 use Rattle.bch.proofs.tables.RootFills.{behind, trios_none}
-use Rattle.bch.proofs.tables.TableLoops.{FieldFilled, Turn, TurnIn, turn_first, turn_in, turn_inside, turn_more, turn_out, turn_power, trios_step, next_entry}
+use Rattle.bch.proofs.tables.TableLoops.{Turn, turn_first, turn_in, turn_inside, turn_more, turn_out, turn_power, trios_step, next_entry}
 use Rattle.receiver.proofs.Places.{power_at, root_at, entry_at, power_fits, power_scaled, root_fits, root_scaled, entry_scaled, step_fits}
 use Rattle.receiver.proofs.Places.{near, inside, low_scaled, low_and, falls, goes_on, wrapped, ended, fell}
 use Rattle.receiver.proofs.tables.fill_kappas.Goals as goal
-
-module _
-    (o : tie.At-loop2 invariant-loop2 decreases-loop2 invariant-loop decreases-loop)
-    (h : o.loop2.e < o.before.before.before.before.before.before.args.c.period) where
-  g : Primitive o.before.before.before.before.before.before.args.c.m
-  g = let k = o.before.before.before.before.before.before.requires.0.lawful in primitive_5_10 _ k.m_least k.m_most
-
-  e-lt : o.loop2.e < 2 ^ o.before.before.before.before.before.before.args.c.m - 1
-  e-lt = subst (λ (p : ℕ). o.loop2.e < p) o.before.before.before.before.before.before.pre.0.is_period h
-
-  l_lt : o.loop2.l < 2 ^ o.before.before.before.before.before.before.args.c.m - 1
-  l_lt = turn_inside _ 3 o.loop2.l o.loop2.e e-lt o.loop2.inv.6
-
-  l-near : o.loop2.l < 2 ^ o.before.before.before.before.before.before.args.c.m + 8
-  l-near = near _ _ l_lt
-
-  module _
-      (x : ℕ)
-      (is_x : x ≡ bit_xor (get_or o.loop2.tables (o.before.before.before.before.before.before.args.c.powers + o.loop2.l) 0 % 1024) 1) where
-    is-next : x ≡ bit_xor (get_or o.loop2.tables (2 ^ o.before.before.before.before.before.before.args.c.m + o.loop2.l) 0 % 1024) 1
-    is-next =
-        let is_powers = o.before.before.before.before.before.before.pre.0.is_powers in
-        is_x ∙ ap (λ (p : ℕ). bit_xor (get_or o.loop2.tables (p + o.loop2.l) 0 % 1024) 1) is_powers
-
-    next-lt : (x < 2 ^ o.before.before.before.before.before.before.args.c.m)
-        × (get_or o.loop2.tables x 0 < 2 ^ o.before.before.before.before.before.before.args.c.m - 1)
-    next-lt =
-        let s = o.before.before.before.before.before.before in
-        let l = o.loop2 in
-        let k = s.pre.0.lawful in
-        next_entry s.args.c.m g s.pre.0.size_most s.args.c.t l.tables l.inv.7 l.l x k.t_least k.t_most k.m_most
-        l.inv.0 l_lt is-next
-
--- ?? same_length : tie.Need-same-length invariant-loop2 decreases-loop2 invariant-loop decreases-loop
--- ?? same_length c = c.before.loop.invariant.3
 
 pub returns-then-c-ne3 : goal.returns-then-c-ne3
 returns-then-c-ne3 c =
@@ -79,31 +44,67 @@ loop-e-init c =
 
 pub overflow_add-powers : goal.overflow_add-powers
 overflow_add-powers c =
+    let e-lt : (h : c.loop-e.e < c.args.c.period) → c.loop-e.e < 2 ^ c.args.c.m - 1 = λ h. subst (λ (p : ℕ). c.loop-e.e < p) c.requires.0.is_period h in
+    let l_lt : (h : c.loop-e.e < c.args.c.period) → c.loop-e.l < 2 ^ c.args.c.m - 1 = λ h. turn_inside _ 3 c.loop-e.l c.loop-e.e (e-lt h) c.loop-e.invariant.6 in
+    let l-near : (h : c.loop-e.e < c.args.c.period) → c.loop-e.l < 2 ^ c.args.c.m + 8 = λ h. near _ _ (l_lt h) in
     let k = c.requires.0 in
-    power_fits _ _ _ k.size_most k.is_powers (l-near c.before ?PLACE c.loop-e-test.true)
+    power_fits _ _ _ k.size_most k.is_powers (l-near c.loop-e-test.true)
 
 pub offset_bounds-tables-powers : goal.offset_bounds-tables-powers
 offset_bounds-tables-powers c =
+    let e-lt : (h : c.loop-e.e < c.args.c.period) → c.loop-e.e < 2 ^ c.args.c.m - 1 = λ h. subst (λ (p : ℕ). c.loop-e.e < p) c.requires.0.is_period h in
+    let l_lt : (h : c.loop-e.e < c.args.c.period) → c.loop-e.l < 2 ^ c.args.c.m - 1 = λ h. turn_inside _ 3 c.loop-e.l c.loop-e.e (e-lt h) c.loop-e.invariant.6 in
+    let l-near : (h : c.loop-e.e < c.args.c.period) → c.loop-e.l < 2 ^ c.args.c.m + 8 = λ h. near _ _ (l_lt h) in
     let k = c.requires.0 in
-    power_scaled _ _ _ k.size_most k.is_powers (l-near c.before ?PLACE c.loop-e-test.true)
+    power_scaled _ _ _ k.size_most k.is_powers (l-near c.loop-e-test.true)
 
 pub bounds-tables-powers : goal.bounds-tables-powers
-bounds-tables-powers c = power_at _ _ _ _ c.requires.0.is_powers (l_lt o c.loop-e-test.true) c.loop-e.invariant.7.long
+bounds-tables-powers c =
+    let e-lt : (h : c.loop-e.e < c.args.c.period) → c.loop-e.e < 2 ^ c.args.c.m - 1 = λ h. subst (λ (p : ℕ). c.loop-e.e < p) c.requires.0.is_period h in
+    let l_lt : (h : c.loop-e.e < c.args.c.period) → c.loop-e.l < 2 ^ c.args.c.m - 1 = λ h. turn_inside _ 3 c.loop-e.l c.loop-e.e (e-lt h) c.loop-e.invariant.6 in
+    power_at _ _ _ _ c.requires.0.is_powers (l_lt c.loop-e-test.true) c.loop-e.invariant.7.long
 
 pub offset_bounds-tables-x : goal.offset_bounds-tables-x
 offset_bounds-tables-x c =
-    let q = next-lt o c.loop-e-test.true c.wide-x.result c.wide-x.ensures in
+    let g : (h : c.loop-e.e < c.args.c.period) → Primitive c.args.c.m = λ h. let k = c.requires.0.lawful in primitive_5_10 _ k.m_least k.m_most in
+    let e-lt : (h : c.loop-e.e < c.args.c.period) → c.loop-e.e < 2 ^ c.args.c.m - 1 = λ h. subst (λ (p : ℕ). c.loop-e.e < p) c.requires.0.is_period h in
+    let l_lt : (h : c.loop-e.e < c.args.c.period) → c.loop-e.l < 2 ^ c.args.c.m - 1 = λ h. turn_inside _ 3 c.loop-e.l c.loop-e.e (e-lt h) c.loop-e.invariant.6 in
+    let is-next : (h : c.loop-e.e < c.args.c.period) → (x : ℕ) → x ≡ bit_xor (get_or c.loop-e.tables (c.args.c.powers + c.loop-e.l) 0 % 1024) 1 → x ≡ bit_xor (get_or c.loop-e.tables (2 ^ c.args.c.m + c.loop-e.l) 0 % 1024) 1 = λ h x is_x. let is_powers = c.requires.0.is_powers in
+    is_x ∙ ap (λ (p : ℕ). bit_xor (get_or c.loop-e.tables (p + c.loop-e.l) 0 % 1024) 1) is_powers in
+    let next-lt : (h : c.loop-e.e < c.args.c.period) → (x : ℕ) → x ≡ bit_xor (get_or c.loop-e.tables (c.args.c.powers + c.loop-e.l) 0 % 1024) 1 → (x < 2 ^ c.args.c.m) × (get_or c.loop-e.tables x 0 < 2 ^ c.args.c.m - 1) = λ h x is_x. let l = c.loop-e in
+    let k = c.requires.0.lawful in
+    next_entry c.args.c.m (g h) c.requires.0.size_most c.args.c.t l.tables l.invariant.7 l.l x k.t_least k.t_most k.m_most
+    l.invariant.0 (l_lt h) ((is-next h) x is_x) in
+    let q = next-lt c.loop-e-test.true c.wide-x.result c.wide-x.ensures in
     entry_scaled _ _ c.requires.0.size_most q.0
 
 pub bounds-tables-x : goal.bounds-tables-x
 bounds-tables-x c =
-    let q = next-lt o c.loop-e-test.true c.wide-x.result c.wide-x.ensures in
+    let g : (h : c.loop-e.e < c.args.c.period) → Primitive c.args.c.m = λ h. let k = c.requires.0.lawful in primitive_5_10 _ k.m_least k.m_most in
+    let e-lt : (h : c.loop-e.e < c.args.c.period) → c.loop-e.e < 2 ^ c.args.c.m - 1 = λ h. subst (λ (p : ℕ). c.loop-e.e < p) c.requires.0.is_period h in
+    let l_lt : (h : c.loop-e.e < c.args.c.period) → c.loop-e.l < 2 ^ c.args.c.m - 1 = λ h. turn_inside _ 3 c.loop-e.l c.loop-e.e (e-lt h) c.loop-e.invariant.6 in
+    let is-next : (h : c.loop-e.e < c.args.c.period) → (x : ℕ) → x ≡ bit_xor (get_or c.loop-e.tables (c.args.c.powers + c.loop-e.l) 0 % 1024) 1 → x ≡ bit_xor (get_or c.loop-e.tables (2 ^ c.args.c.m + c.loop-e.l) 0 % 1024) 1 = λ h x is_x. let is_powers = c.requires.0.is_powers in
+    is_x ∙ ap (λ (p : ℕ). bit_xor (get_or c.loop-e.tables (p + c.loop-e.l) 0 % 1024) 1) is_powers in
+    let next-lt : (h : c.loop-e.e < c.args.c.period) → (x : ℕ) → x ≡ bit_xor (get_or c.loop-e.tables (c.args.c.powers + c.loop-e.l) 0 % 1024) 1 → (x < 2 ^ c.args.c.m) × (get_or c.loop-e.tables x 0 < 2 ^ c.args.c.m - 1) = λ h x is_x. let l = c.loop-e in
+    let k = c.requires.0.lawful in
+    next_entry c.args.c.m (g h) c.requires.0.size_most c.args.c.t l.tables l.invariant.7 l.l x k.t_least k.t_most k.m_most
+    l.invariant.0 (l_lt h) ((is-next h) x is_x) in
+    let q = next-lt c.loop-e-test.true c.wide-x.result c.wide-x.ensures in
     entry_at _ _ _ q.0 c.loop-e.invariant.7.long
 
 pub behind-requires : goal.behind-requires
 behind-requires c =
+    let g : (h : c.loop-e.e < c.args.c.period) → Primitive c.args.c.m = λ h. let k = c.requires.0.lawful in primitive_5_10 _ k.m_least k.m_most in
+    let e-lt : (h : c.loop-e.e < c.args.c.period) → c.loop-e.e < 2 ^ c.args.c.m - 1 = λ h. subst (λ (p : ℕ). c.loop-e.e < p) c.requires.0.is_period h in
+    let l_lt : (h : c.loop-e.e < c.args.c.period) → c.loop-e.l < 2 ^ c.args.c.m - 1 = λ h. turn_inside _ 3 c.loop-e.l c.loop-e.e (e-lt h) c.loop-e.invariant.6 in
+    let is-next : (h : c.loop-e.e < c.args.c.period) → (x : ℕ) → x ≡ bit_xor (get_or c.loop-e.tables (c.args.c.powers + c.loop-e.l) 0 % 1024) 1 → x ≡ bit_xor (get_or c.loop-e.tables (2 ^ c.args.c.m + c.loop-e.l) 0 % 1024) 1 = λ h x is_x. let is_powers = c.requires.0.is_powers in
+    is_x ∙ ap (λ (p : ℕ). bit_xor (get_or c.loop-e.tables (p + c.loop-e.l) 0 % 1024) 1) is_powers in
+    let next-lt : (h : c.loop-e.e < c.args.c.period) → (x : ℕ) → x ≡ bit_xor (get_or c.loop-e.tables (c.args.c.powers + c.loop-e.l) 0 % 1024) 1 → (x < 2 ^ c.args.c.m) × (get_or c.loop-e.tables x 0 < 2 ^ c.args.c.m - 1) = λ h x is_x. let l = c.loop-e in
+    let k = c.requires.0.lawful in
+    next_entry c.args.c.m (g h) c.requires.0.size_most c.args.c.t l.tables l.invariant.7 l.l x k.t_least k.t_most k.m_most
+    l.invariant.0 (l_lt h) ((is-next h) x is_x) in
     let h = c.loop-e-test.true in
-    let q = next-lt o h c.wide-x.result c.wide-x.ensures in
+    let q = next-lt h c.wide-x.result c.wide-x.ensures in
     let p = c.requires.0.is_period in
     (h, subst₂ (λ (a b : ℕ). a < b) (sym c.wide.ensures) (sym p) q.1, omega (arith, p, c.requires.0.size_most))
 
@@ -127,7 +128,9 @@ overflow_mul-tables c = low_scaled _
 
 pub overflow_add-tables : goal.overflow_add-tables
 overflow_add-tables c =
-    let h = l_lt o c.loop-e-test.true in
+    let e-lt : (h : c.loop-e.e < c.args.c.period) → c.loop-e.e < 2 ^ c.args.c.m - 1 = λ h. subst (λ (p : ℕ). c.loop-e.e < p) c.requires.0.is_period h in
+    let l_lt : (h : c.loop-e.e < c.args.c.period) → c.loop-e.l < 2 ^ c.args.c.m - 1 = λ h. turn_inside _ 3 c.loop-e.l c.loop-e.e (e-lt h) c.loop-e.invariant.6 in
+    let h = l_lt c.loop-e-test.true in
     low_and _ _ _ _ c.requires.0.size_most (inside _ _ h) c.narrow.ensures
 
 pub offset_bounds-tables-at-in-loop-e : goal.offset_bounds-tables-at-in-loop-e
@@ -143,35 +146,47 @@ bounds-tables-at-in-loop-e c =
 
 pub overflow_add-e : goal.overflow_add-e
 overflow_add-e c =
-    let h = e-lt o c.loop-e-test.true in
+    let e-lt : (h : c.loop-e.e < c.args.c.period) → c.loop-e.e < 2 ^ c.args.c.m - 1 = λ h. subst (λ (p : ℕ). c.loop-e.e < p) c.requires.0.is_period h in
+    let h = e-lt c.loop-e-test.true in
     step_fits _ _ 3 c.requires.0.size_most (near _ _ h) (omega arith)
 
 pub overflow_add-l : goal.overflow_add-l
 overflow_add-l c =
-    let h = l-near o c.loop-e-test.true in
+    let e-lt : (h : c.loop-e.e < c.args.c.period) → c.loop-e.e < 2 ^ c.args.c.m - 1 = λ h. subst (λ (p : ℕ). c.loop-e.e < p) c.requires.0.is_period h in
+    let l_lt : (h : c.loop-e.e < c.args.c.period) → c.loop-e.l < 2 ^ c.args.c.m - 1 = λ h. turn_inside _ 3 c.loop-e.l c.loop-e.e (e-lt h) c.loop-e.invariant.6 in
+    let l-near : (h : c.loop-e.e < c.args.c.period) → c.loop-e.l < 2 ^ c.args.c.m + 8 = λ h. near _ _ (l_lt h) in
+    let h = l-near c.loop-e-test.true in
     step_fits _ _ 1 c.requires.0.size_most h (omega arith)
 
 pub loop-e-smaller : goal.loop-e-smaller
-loop-e-smaller c = falls _ _ (l_lt o c.loop-e-test.true)
+loop-e-smaller c =
+    let e-lt : (h : c.loop-e.e < c.args.c.period) → c.loop-e.e < 2 ^ c.args.c.m - 1 = λ h. subst (λ (p : ℕ). c.loop-e.e < p) c.requires.0.is_period h in
+    let l_lt : (h : c.loop-e.e < c.args.c.period) → c.loop-e.l < 2 ^ c.args.c.m - 1 = λ h. turn_inside _ 3 c.loop-e.l c.loop-e.e (e-lt h) c.loop-e.invariant.6 in
+    falls _ _ (l_lt c.loop-e-test.true)
 
 pub loop-e-preserved : goal.loop-e-preserved
 loop-e-preserved c =
+    let g : (h : c.loop-e.e < c.args.c.period) → Primitive c.args.c.m = λ h. let k = c.requires.0.lawful in primitive_5_10 _ k.m_least k.m_most in
+    let e-lt : (h : c.loop-e.e < c.args.c.period) → c.loop-e.e < 2 ^ c.args.c.m - 1 = λ h. subst (λ (p : ℕ). c.loop-e.e < p) c.requires.0.is_period h in
+    let l_lt : (h : c.loop-e.e < c.args.c.period) → c.loop-e.l < 2 ^ c.args.c.m - 1 = λ h. turn_inside _ 3 c.loop-e.l c.loop-e.e (e-lt h) c.loop-e.invariant.6 in
+    let is-next : (h : c.loop-e.e < c.args.c.period) → (x : ℕ) → x ≡ bit_xor (get_or c.loop-e.tables (c.args.c.powers + c.loop-e.l) 0 % 1024) 1 → x ≡ bit_xor (get_or c.loop-e.tables (2 ^ c.args.c.m + c.loop-e.l) 0 % 1024) 1 = λ h x is_x. let is_powers = c.requires.0.is_powers in
+    is_x ∙ ap (λ (p : ℕ). bit_xor (get_or c.loop-e.tables (p + c.loop-e.l) 0 % 1024) 1) is_powers in
     let k = c.requires.0 in
     let l = c.loop-e in
     let h = c.loop-e-test.true in
     let x = c.wide-x.result in
-    let is_x = is-next o h x c.wide-x.ensures in
+    let is_x = is-next h x c.wide-x.ensures in
     let b = c.behind.result in
     let is_b : b ≡ behind (2 ^ c.args.c.m - 1) l.e (get_or l.tables x 0) =
     c.behind.ensures.0
     ∙ ap₂ (λ (p y : ℕ). behind p l.e y) k.is_period c.wide.ensures in
-    let same_turn = turn_power c.args.c.m (g o h) 3 l.l l.e (record { turns = l.invariant.6.turns; sum = l.invariant.6.sum }) in
+    let same_turn = turn_power c.args.c.m (g h) 3 l.l l.e (record { turns = l.invariant.6.turns; sum = l.invariant.6.sum }) in
     let value = ap (λ (v : ℕ). get_or l.tables (c.args.c.roots + b) 0 % 1024 * 1024 + v) c.narrow.ensures in
     let r =
-    trios_step c.args.c.m (g o h) k.size_most c.args.c.t l.tables l.invariant.7 l.l l.e x b _ _ k.lawful.t_least
-    k.lawful.t_most k.lawful.m_most l.invariant.0 (l_lt o h) (e-lt o h) same_turn is_x is_b (ap (λ (i : ℕ). i + b) k.is_roots) value
+    trios_step c.args.c.m (g h) k.size_most c.args.c.t l.tables l.invariant.7 l.l l.e x b _ _ k.lawful.t_least
+    k.lawful.t_most k.lawful.m_most l.invariant.0 (l_lt h) (e-lt h) same_turn is_x is_b (ap (λ (i : ℕ). i + b) k.is_roots) value
     l.invariant.8 in
-    let more = goes_on _ 3 _ _ _ l.invariant.2 (l_lt o h) (e-lt o h) in
+    let more = goes_on _ 3 _ _ _ l.invariant.2 (l_lt h) (e-lt h) in
     (more.0, more.1, more.2, more.3, inl more.4, simp length-set l.invariant.5, turn_more _ 3 l.l l.e l.invariant.6, r.0, r.1)
 
 pub loop-l-smaller : goal.loop-l-smaller

@@ -2,8 +2,8 @@
 use Prim.Native.Nat.{ℕ, ◌+◌, ◌-◌, ◌^◌, ◌≤◌, ◌<◌}
 use mathlib.Core.Path.{◌≡◌, refl, ap, subst, sym, ◌∙◌}
 use native.Mathlib.Omega.{arith}
-use Rattle.bch.proofs.tables.TableFills.{LogPart, logs_none, logs_more, logs_all}
-use lib.ListN.{length, length-set}
+use Rattle.bch.proofs.tables.TableFills.{logs_none, logs_more, logs_all}
+use lib.ListN.{length-set}
 use Rattle.galois.specs.Field.{alpha, double}
 use Rattle.galois.proofs.Primitive.{Primitive, primitive_5_10}
 use Rattle.galois.proofs.FieldTables.{alpha_next}

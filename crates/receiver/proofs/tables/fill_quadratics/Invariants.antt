@@ -1,17 +1,9 @@
 -- The entries of the even elements below w are written. Assumes nothing.
-use Prim.Native.Nat.{ℕ, ◌+◌, ◌-◌, ◌*◌, ◌%◌, ◌^◌, ◌≤◌, ◌<◌}
-use native.Mathlib.Omega.{arith}
-use mathlib.Core.Path.{◌≡◌, refl, ap, ap₂, sym, subst, subst₂, ◌∙◌}
-use mathlib.Core.Logic.{◌≢◌}
-use lib.ListN.{length, get_or, length-set}
-use Rattle.galois.proofs.Primitive.{Primitive, primitive_5_10}
-use Rattle.galois.proofs.FieldTables.{even_size}
-use Rattle.bch.proofs.tables.CodeTables.{PairRoots, roots_in, reduced}
-use Rattle.bch.proofs.tables.RootFills.{even_end, pairs_none}
-use Rattle.bch.proofs.tables.TableLoops.{FieldFilled, filled_log_lt, pairs_step}
-use mir.Syntax.{w32, w64}
-use mir.Val.{Fits}
-use Rattle.receiver.proofs.Places.{near, root_at, root_fits, root_scaled}
+use Prim.Native.Nat.{◌-◌, ◌%◌, ◌^◌, ◌≤◌}
+use mathlib.Core.Path.{◌≡◌}
+use lib.ListN.{length}
+use Rattle.bch.proofs.tables.CodeTables.{PairRoots, roots_in}
+use Rattle.bch.proofs.tables.TableLoops.{FieldFilled}
 use Rattle.receiver.proofs.tables.fill_quadratics.Given as goal
 
 abbrev pub invariant-loop-w : goal.invariant-loop-w
@@ -24,5 +16,3 @@ invariant-loop-w l = (2 ≤ l.w)
 
 abbrev pub decreases-loop-w : goal.decreases-loop-w
 decreases-loop-w l = 2 ^ l.c.m - l.w
-
--- ---- of numbers: two logarithms a and b below the l.period of a field of s elements

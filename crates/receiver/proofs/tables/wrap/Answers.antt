@@ -1,5 +1,4 @@
 -- The first i entries stand again behind the period. Assumes nothing.
-use Prim.Native.Nat.{◌-◌, ◌≤◌}
 use mathlib.Core.Path.{◌≡◌, subst}
 use native.Mathlib.Omega.{arith}
 use Rattle.bch.proofs.tables.TableLoops.{Again, again_none, again_more}

@@ -1,8 +1,6 @@
 -- The first i entries stand again behind the period. Assumes nothing.
 use Prim.Native.Nat.{◌-◌, ◌≤◌}
-use mathlib.Core.Path.{◌≡◌, subst}
-use native.Mathlib.Omega.{arith}
-use Rattle.bch.proofs.tables.TableLoops.{Again, again_none, again_more}
+use Rattle.bch.proofs.tables.TableLoops.{Again}
 use Rattle.receiver.proofs.tables.wrap.Given as goal
 
 abbrev pub invariant-loop-i : goal.invariant-loop-i

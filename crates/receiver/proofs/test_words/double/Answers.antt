@@ -1,13 +1,13 @@
 -- The front stays as it was, and below i the back is each of its test words with one flip more. Assumes nothing.
-use Prim.Native.Nat.{ℕ, ◌+◌, ◌-◌, ◌≤◌, ◌<◌}
+use Prim.Native.Nat.{ℕ, ◌+◌, ◌<◌}
 use native.Mathlib.Omega.{arith}
-use mathlib.Core.Path.{◌≡◌, refl, ap, ◌∙◌}
+use mathlib.Core.Path.{refl, ap, ◌∙◌}
 use borrow.Author.Count.{below_none}
 use lib.Bits.{bit_xor, xor_lt}
-use lib.ListN.{length, get_or, length-set}
+use lib.ListN.{get_or, length-set}
 use Rattle.galois.proofs.FieldTables.{powers_of}
 use Rattle.bch.proofs.tables.Placing.{lower_part}
-use Rattle.chase.proofs.test_words.Doublings.{Doubled, Holds, front_stays, back_more}
+use Rattle.chase.proofs.test_words.Doublings.{Doubled, front_stays, back_more}
 use Rattle.receiver.proofs.test_words.double.Goals as goal
 
 pub powers_of-v-requires : goal.powers_of-v-requires

@@ -1,13 +1,9 @@
 -- The front stays as it was, and below i the back is each of its test words with one flip more. Assumes nothing.
 use Prim.Native.Nat.{ℕ, ◌+◌, ◌-◌, ◌≤◌, ◌<◌}
-use native.Mathlib.Omega.{arith}
-use mathlib.Core.Path.{◌≡◌, refl, ap, ◌∙◌}
-use borrow.Author.Count.{below_none}
-use lib.Bits.{bit_xor, xor_lt}
-use lib.ListN.{length, get_or, length-set}
-use Rattle.galois.proofs.FieldTables.{powers_of}
-use Rattle.bch.proofs.tables.Placing.{lower_part}
-use Rattle.chase.proofs.test_words.Doublings.{Doubled, Holds, front_stays, back_more}
+use mathlib.Core.Path.{◌≡◌}
+use lib.Bits.{bit_xor}
+use lib.ListN.{length, get_or}
+use Rattle.chase.proofs.test_words.Doublings.{Holds}
 use Rattle.receiver.proofs.test_words.double.Given as goal
 
 abbrev pub invariant-loop-i : goal.invariant-loop-i

@@ -1,11 +1,9 @@
 -- What is left of the sum, with what is added already, is the whole sum. Assumes nothing.
-use Prim.Native.Nat.{ℕ, ◌+◌, ◌-◌, ◌*◌, ◌/◌, ◌%◌, ◌≤◌, ◌<◌}
+use Prim.Native.Nat.{ℕ, ◌+◌, ◌-◌, ◌/◌, ◌%◌, ◌≤◌, ◌<◌}
 use native.Mathlib.Omega.{arith}
-use mathlib.Core.Path.{◌≡◌, refl, ap, sym, ◌∙◌}
-use mathlib.Core.Logic.{⊎_elim}
+use mathlib.Core.Path.{◌≡◌, ap, sym, ◌∙◌}
 use mathlib.Core.Bool.{true, false}
 use mathlib.Core.List.{List, ◌++◌}
-use borrow.Author.Tests.{not-true, not-false}
 use lib.Dec.{eqb}
 use lib.ListN.{length, get_or, take, drop, length-append}
 use lib.Seq.{get_or-take, length-take-le}
@@ -13,6 +11,7 @@ use Rattle.bch.specs.Words.{is_in}
 use Rattle.chase.proofs.ranking.Allowances.{turned, unflipped_sum, sum_skip, sum_add, sum_enough, sum_end}
 use Rattle.receiver.specs.Located.{flips_of}
 use Rattle.receiver.proofs.weighing.allowance.Goals as goal
+use Rattle.receiver.proofs.weighing.allowance.Goals.{then-not-turns, else-not-turns}
 
 module _ (P ks : List ℕ) (d r full k sum total key : ℕ) (room : d ≤ length ks) (more : k < d) (short : full < d) (is_key : key ≡ get_or ks k 0)
     (old : sum + unflipped_sum P r (d - full) (drop k (take d ks)) ≡ total) where
@@ -62,22 +61,22 @@ loop-k-preserved c =
     let short = c.if-d-full.false in
     let key = c.key_at-key in
     let e = rw c.place_of.ensures at c.turns.ensures in
-    ⊎_elim
-    (λ w. (
-      omega arith,
-      omega (arith, w.1.ensures.1, w.2),
-      rw (w.2, w.3)
-          (added (flips_of a.f) ks a.d l.r l.full l.k l.sum _ key.result room more short key.ensures l.invariant.2 w.1.result
-          w.1.ensures.0 (sym e ∙ not-true _ w.0.taken)),
-    ))
-    (λ w. (
-      omega arith,
-      omega (arith, w.1),
-      rw (w.1, w.2)
-          (passed (flips_of a.f) ks a.d l.r l.full l.k l.sum _ key.result room more short key.ensures l.invariant.2
-          (sym e ∙ not-false _ w.0.left)),
-    ))
-    c.if-not-turns.branch
+    elim c.if-not-turns.branch [
+      | then-not-turns w ↦ (
+        omega arith,
+        omega (arith, w.held-sum.ensures.1, w.sum-is),
+        rw (w.sum-is, w.full-is)
+            (added (flips_of a.f) ks a.d l.r l.full l.k l.sum _ key.result room more short key.ensures l.invariant.2 w.held-sum.result
+            w.held-sum.ensures.0 (sym e ∙ w.if-not-turns.true)),
+      )
+      | else-not-turns w ↦ (
+        omega arith,
+        omega (arith, w.sum-is),
+        rw (w.sum-is, w.full-is)
+            (passed (flips_of a.f) ks a.d l.r l.full l.k l.sum _ key.result room more short key.ensures l.invariant.2
+            (sym e ∙ w.if-not-turns.false)),
+      )
+    ]
 
 pub returns : goal.returns
 returns c =

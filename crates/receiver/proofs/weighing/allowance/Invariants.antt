@@ -1,16 +1,9 @@
 -- What is left of the sum, with what is added already, is the whole sum. Assumes nothing.
-use Prim.Native.Nat.{ℕ, ◌+◌, ◌-◌, ◌*◌, ◌/◌, ◌%◌, ◌≤◌, ◌<◌}
-use native.Mathlib.Omega.{arith}
-use mathlib.Core.Path.{◌≡◌, refl, ap, sym, ◌∙◌}
-use mathlib.Core.Logic.{⊎_elim}
-use mathlib.Core.Bool.{true, false}
-use mathlib.Core.List.{List, ◌++◌}
-use borrow.Author.Tests.{not-true, not-false}
-use lib.Dec.{eqb}
-use lib.ListN.{length, get_or, take, drop, length-append}
-use lib.Seq.{get_or-take, length-take-le}
-use Rattle.bch.specs.Words.{is_in}
-use Rattle.chase.proofs.ranking.Allowances.{turned, unflipped_sum, sum_skip, sum_add, sum_enough, sum_end}
+use Prim.Native.Nat.{◌+◌, ◌-◌, ◌*◌, ◌≤◌}
+use mathlib.Core.Path.{◌≡◌}
+use mathlib.Core.List.{◌++◌}
+use lib.ListN.{take, drop}
+use Rattle.chase.proofs.ranking.Allowances.{unflipped_sum}
 use Rattle.receiver.specs.Located.{flips_of}
 use Rattle.receiver.proofs.weighing.allowance.Given as goal
 
@@ -20,5 +13,3 @@ invariant-loop-k l = (l.k ≤ l.d) × (l.sum ≤ 64 * l.k) × (l.sum + unflipped
 
 abbrev pub decreases-loop-k : goal.decreases-loop-k
 decreases-loop-k l = l.d - l.k
-
--- ---- one key, of the first l.d of ks

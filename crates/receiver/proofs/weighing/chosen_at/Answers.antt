@@ -1,13 +1,13 @@
 -- The positions that j flips are gone through one after the other. Assumes nothing.
-use Prim.Native.Nat.{◌-◌, ◌%◌, ◌≤◌, ◌<◌}
+use Prim.Native.Nat.{◌%◌, ◌<◌}
 use native.Mathlib.Omega.{arith}
 use mathlib.Core.Path.{◌≡◌, refl, ap, sym, ◌∙◌}
-use mathlib.Core.Logic.{⊎_elim}
-use lib.ListN.{length, get_or, drop}
+use lib.ListN.{length, get_or}
 use Rattle.bch.specs.Words.{is_in}
-use Rattle.chase.proofs.test_words.TestWords.{chosen, chosen_hit, chosen_miss, chosen_past, chosen_over}
+use Rattle.chase.proofs.test_words.TestWords.{chosen_hit, chosen_miss, chosen_past, chosen_over}
 use Rattle.chase.proofs.search.Ready.{places_of, long_places, at_places}
 use Rattle.receiver.proofs.weighing.chosen_at.Goals as goal
+use Rattle.receiver.proofs.weighing.chosen_at.Goals.{then-r-eq1+else-place_of-x, else-r-eq1}
 
 pub loop-k-init : goal.loop-k-init
 loop-k-init c = (omega arith, refl)
@@ -33,10 +33,11 @@ loop-k-preserved c =
     let ws = places_of a.keys.at a.p in
     let h : l.k < length ws = omega (arith, long_places a.keys.at a.p (omega arith)) in
     let e : get_or ws l.k 0 ≡ get_or a.keys.at l.k 0 % 1024 = at_places a.keys.at a.p l.k (omega arith) in
-    ⊎_elim
-    (λ w. (omega arith, sym (chosen_miss l.r l.k ws h a.x w.0.taken (λ q. w.2.left (w.1.ensures ∙ sym e ∙ q))) ∙ l.invariant.1))
-    (λ w. (omega arith, sym (ap (is_in a.x) (chosen_past l.r l.k ws h w.left)) ∙ l.invariant.1))
-    c.if-r-eq1.branch
+    elim c.if-r-eq1.branch [
+      | then-r-eq1+else-place_of-x w ↦
+          (omega arith, sym (chosen_miss l.r l.k ws h a.x w.if-r-eq1.true (λ q. w.if-place_of-x.false (w.place_of.ensures ∙ sym e ∙ q))) ∙ l.invariant.1)
+      | else-r-eq1 w ↦ (omega arith, sym (ap (is_in a.x) (chosen_past l.r l.k ws h w.if-r-eq1.false)) ∙ l.invariant.1)
+    ]
 
 pub returns : goal.returns
 unfolding is_in

@@ -1,12 +1,10 @@
 -- The positions that j flips are gone through one after the other. Assumes nothing.
-use Prim.Native.Nat.{◌-◌, ◌%◌, ◌≤◌, ◌<◌}
-use native.Mathlib.Omega.{arith}
-use mathlib.Core.Path.{◌≡◌, refl, ap, sym, ◌∙◌}
-use mathlib.Core.Logic.{⊎_elim}
-use lib.ListN.{length, get_or, drop}
+use Prim.Native.Nat.{◌-◌, ◌≤◌}
+use mathlib.Core.Path.{◌≡◌}
+use lib.ListN.{drop}
 use Rattle.bch.specs.Words.{is_in}
-use Rattle.chase.proofs.test_words.TestWords.{chosen, chosen_hit, chosen_miss, chosen_past, chosen_over}
-use Rattle.chase.proofs.search.Ready.{places_of, long_places, at_places}
+use Rattle.chase.proofs.test_words.TestWords.{chosen}
+use Rattle.chase.proofs.search.Ready.{places_of}
 use Rattle.receiver.proofs.weighing.chosen_at.Given as goal
 
 abbrev pub invariant-loop-k : goal.invariant-loop-k

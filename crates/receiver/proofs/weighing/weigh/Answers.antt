@@ -3,7 +3,7 @@ use Prim.Native.Nat.{ℕ, ◌+◌, ◌-◌, ◌≤◌}
 use native.Mathlib.Omega.{arith}
 use mathlib.Core.Path.{◌≡◌, refl, sym, ◌∙◌}
 use mathlib.Core.Bool.{true, false}
-use mathlib.Core.Logic.{⊎_elim}
+use mathlib.Core.List.{List}
 use lib.ListN.{get_or, take}
 use lib.Seq.{take-take}
 use Rattle.bch.specs.Words.{flipped_at}
@@ -12,15 +12,11 @@ use Rattle.chase.specs.Word.{test}
 use Rattle.chase.proofs.weighing.Weights.{Weighs, weighs_small}
 use Rattle.chase.proofs.search.Ready.{length_candidate, start_weighs, next_below, out_at, back_at}
 use Rattle.receiver.proofs.weighing.weigh.Goals as goal
+use Rattle.receiver.proofs.weighing.weigh.Goals.{then-flipped, else-flipped}
 
--- ?? abbrev Turned : tie.After-flipped invariant-loop decreases-loop → ℕ → ℕ → Type 0
--- ?? Turned c q sum =
--- ??     let a = c.before.before.before.before.before.before.before.args in
--- ??     Weighs (reliabilities a.s.now)
--- ??     (flipped_at (take (c.before.before.before.before.loop.a + 1) (take a.f.count a.f.at)) (test a.p a.s.now a.j))
--- ??     (hard_bits a.s.now) q sum
--- ?? 
--- ?? -- at a position that the test word flips ..
+-- the weight with the position at place a turned too
+abbrev Turned : List ℕ → List ℕ → ℕ → ℕ → ℕ → ℕ → Type 0
+Turned ss P p j q sum = Weighs (reliabilities ss) (flipped_at P (test p ss j)) (hard_bits ss) q sum
 
 pub loop-a-init : goal.loop-a-init
 loop-a-init c =
@@ -43,7 +39,7 @@ flipped-requires c = record { ready = c.requires.ready; z_value = c.z_at-z.ensur
 
 pub overflow_sub-q : goal.overflow_sub-q
 overflow_sub-q c =
-    let back : c.flipped.result ≡ true → (1 ≤ c.loop-a.q) × (c.z_at-z.result ≤ c.loop-a.sum) × Turned c (c.loop-a.q - 1) (c.loop-a.sum - c.z_at-z.result) = λ h. let a = c.args in
+    let back : c.flipped.result ≡ true → (1 ≤ c.loop-a.q) × (c.z_at-z.result ≤ c.loop-a.sum) × Turned c.args.s.now (take (c.loop-a.a + 1) (take c.args.f.count c.args.f.at)) c.args.p c.args.j (c.loop-a.q - 1) (c.loop-a.sum - c.z_at-z.result) = λ h. let a = c.args in
     let l = c.loop-a in
     let x = c.entry_of-x.ensures in
     back_at a.s.now a.keys.at a.p c.requires.ready a.j a.f.at a.f.count l.a l.q l.sum
@@ -53,7 +49,7 @@ overflow_sub-q c =
 
 pub overflow_sub-sum : goal.overflow_sub-sum
 overflow_sub-sum c =
-    let back : c.flipped.result ≡ true → (1 ≤ c.loop-a.q) × (c.z_at-z.result ≤ c.loop-a.sum) × Turned c (c.loop-a.q - 1) (c.loop-a.sum - c.z_at-z.result) = λ h. let a = c.args in
+    let back : c.flipped.result ≡ true → (1 ≤ c.loop-a.q) × (c.z_at-z.result ≤ c.loop-a.sum) × Turned c.args.s.now (take (c.loop-a.a + 1) (take c.args.f.count c.args.f.at)) c.args.p c.args.j (c.loop-a.q - 1) (c.loop-a.sum - c.z_at-z.result) = λ h. let a = c.args in
     let l = c.loop-a in
     let x = c.entry_of-x.ensures in
     back_at a.s.now a.keys.at a.p c.requires.ready a.j a.f.at a.f.count l.a l.q l.sum
@@ -79,20 +75,22 @@ overflow_add-sum c =
 
 pub loop-a-preserved : goal.loop-a-preserved
 loop-a-preserved c =
-    let back : c.flipped.result ≡ true → (1 ≤ c.loop-a.q) × (c.z_at-z.result ≤ c.loop-a.sum) × Turned c (c.loop-a.q - 1) (c.loop-a.sum - c.z_at-z.result) = λ h. let a = c.args in
+    let back : c.flipped.result ≡ true → (1 ≤ c.loop-a.q) × (c.z_at-z.result ≤ c.loop-a.sum) × Turned c.args.s.now (take (c.loop-a.a + 1) (take c.args.f.count c.args.f.at)) c.args.p c.args.j (c.loop-a.q - 1) (c.loop-a.sum - c.z_at-z.result) = λ h. let a = c.args in
     let l = c.loop-a in
     let x = c.entry_of-x.ensures in
     back_at a.s.now a.keys.at a.p c.requires.ready a.j a.f.at a.f.count l.a l.q l.sum
     c.z_at-z.result c.requires.count_bound.2 (omega arith) (omega arith) (rw x at c.z_at-z.ensures.0) l.invariant.1
     (rw x at (sym h ∙ c.flipped.ensures)) in
-    let out : c.flipped.result ≡ false → Turned c (c.loop-a.q + 1) (c.loop-a.sum + c.z_at-z.result) = λ h. let a = c.args in
+    let out : c.flipped.result ≡ false → Turned c.args.s.now (take (c.loop-a.a + 1) (take c.args.f.count c.args.f.at)) c.args.p c.args.j (c.loop-a.q + 1) (c.loop-a.sum + c.z_at-z.result) = λ h. let a = c.args in
     let l = c.loop-a in
     let x = c.entry_of-x.ensures in
     out_at a.s.now a.keys.at a.p c.requires.ready a.j a.f.at a.f.count l.a l.q l.sum
     c.z_at-z.result c.requires.count_bound.2 (omega arith) (omega arith) (rw x at c.z_at-z.ensures.0) l.invariant.1
     (rw x at (sym h ∙ c.flipped.ensures)) in
-    ⊎_elim (λ w. rw (w.1, w.2) (omega arith, (back w.0.taken).2)) (λ w. rw (w.1, w.2) (omega arith, out w.0.left))
-    c.if-flipped.branch
+    elim c.if-flipped.branch [
+      | then-flipped w ↦ rw (w.q-is, w.sum-is) (omega arith, (back w.if-flipped.true).2)
+      | else-flipped w ↦ rw (w.q-is, w.sum-is) (omega arith, out w.if-flipped.false)
+    ]
 
 pub returns : goal.returns
 returns c =

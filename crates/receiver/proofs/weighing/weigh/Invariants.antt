@@ -1,16 +1,10 @@
 -- Each position located adds its flip to what the test word weighs, or takes it away. Assumes nothing.
-use Prim.Native.Nat.{ℕ, ◌+◌, ◌-◌, ◌≤◌}
-use native.Mathlib.Omega.{arith}
-use mathlib.Core.Path.{◌≡◌, refl, sym, ◌∙◌}
-use mathlib.Core.Bool.{true, false}
-use mathlib.Core.Logic.{⊎_elim}
-use lib.ListN.{get_or, take}
-use lib.Seq.{take-take}
+use Prim.Native.Nat.{◌-◌, ◌≤◌}
+use lib.ListN.{take}
 use Rattle.bch.specs.Words.{flipped_at}
 use Rattle.chase.specs.Soft.{hard_bits, reliabilities}
 use Rattle.chase.specs.Word.{test}
-use Rattle.chase.proofs.weighing.Weights.{Weighs, weighs_small}
-use Rattle.chase.proofs.search.Ready.{length_candidate, start_weighs, next_below, out_at, back_at}
+use Rattle.chase.proofs.weighing.Weights.{Weighs}
 use Rattle.receiver.proofs.weighing.weigh.Given as goal
 
 abbrev pub invariant-loop-a : goal.invariant-loop-a
@@ -18,5 +12,3 @@ invariant-loop-a l = (l.a ≤ l.count) × Weighs (reliabilities l.s) (flipped_at
 
 abbrev pub decreases-loop-a : goal.decreases-loop-a
 decreases-loop-a l = l.count - l.a
-
--- the weight after the turn
