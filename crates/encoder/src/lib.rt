@@ -26,8 +26,8 @@ pub enum Encoded {
 // Writes the codeword that carries a message of n - m t bits: parity at positions 0 to m t - 1, the message behind it. Any m, t,
 // n, message and buffer may be handed in.
 pub fn encode(m: usize, t: usize, n: usize, message: &[u8], codeword: &mut [u8]) -> Encoded
-    ensures result_value { encoded_of result ≡ encode_refusal (code m t n) message.now codeword.old }
-    ensures codeword_after { codeword.new ≡ encode_buffer (code m t n) message.now codeword.old }
+    ensures answer { encoded_of result ≡ encode_refusal (code m t n) message.now codeword.old }
+    ensures codeword { codeword.new ≡ encode_buffer (code m t n) message.now codeword.old }
 {
     match refusal::of_message(m, t, n, message, codeword.len()) {
         Named::Refused(r) => Encoded::Refused(r),

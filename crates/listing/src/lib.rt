@@ -17,7 +17,7 @@ mod put;
 // Writes the program's whole output for its input, and answers its length. The buffer has room for every output.
 pub fn list(input: &[u8], text: &mut [u8; 900000]) -> usize
     ensures value { result ≡ length (takelist input.now) }
-    ensures text_after { text.new ≡ over (takelist input.now) text.old }
+    ensures text { text.new ≡ over (takelist input.now) text.old }
     ensures upper_bound { result ≤ length text.new }
 {
     if 65536 < input.len() {

@@ -69,7 +69,7 @@ pub fn print_take(take: &[u8], strip: &mut [u8]) -> Words
 // that is refused or too long. The buffer has room for every output.
 pub fn print(input: &[u8], text: &mut [u8; 900000]) -> usize
     ensures value { result ≡ length (strip_output input.now) }
-    ensures text_after { text.new ≡ over (strip_output input.now) text.old }
+    ensures text { text.new ≡ over (strip_output input.now) text.old }
     ensures upper_bound { result ≤ length text.new }
 {
     if 65536 < input.len() {

@@ -108,8 +108,8 @@ fn refuses(answer: Check) -> bool
 // Writes the symbol of each sample, given by its kind (0 blank, 1 heard) and its level. Any kinds, levels and buffer may be
 // handed in: the refusals are 6, 7, 10 and 11. All samples are checked before the first symbol is written.
 pub fn quantise(ladder: Ladder, kinds: &[u8], levels: &[f32], symbols: &mut [u8]) -> Check
-    ensures result_value { checked result ≡ samples_refusal kinds.now levels.now symbols.old }
-    ensures symbols_after { symbols.new ≡ quantised_buffer (edges_of ladder) kinds.now levels.now symbols.old }
+    ensures answer { checked result ≡ samples_refusal kinds.now levels.now symbols.old }
+    ensures symbols { symbols.new ≡ quantised_buffer (edges_of ladder) kinds.now levels.now symbols.old }
 {
     if levels.len() != kinds.len() {
         return refusal::refuse(refusal::REFUSED_INPUT_LENGTH, 0);

@@ -39,8 +39,8 @@ fn mark_of(o: Outcome) -> u8
 // One word: its message, and 0 in its place where it is lost.
 fn decode_word(c: Code, tables: &[u32], p: usize, s: &[u8], message: &mut [u8]) -> Outcome
     requires { Filled c tables.now × (p ≤ 6) × (length s.now ≡ c.n) × Symbols s.now × (length message.old ≡ c.k) }
-    ensures result_value { (mark_in result ≡ mark_byte (soft_stage (code_of c) p s.now).mark) × (result.tries ≡ (soft_stage (code_of c) p s.now).tries) }
-    ensures message_after { message.new ≡ Batch·message (code_of c) (soft_stage (code_of c) p s.now) }
+    ensures answer { (mark_in result ≡ mark_byte (soft_stage (code_of c) p s.now).mark) × (result.tries ≡ (soft_stage (code_of c) p s.now).tries) }
+    ensures message { message.new ≡ Batch·message (code_of c) (soft_stage (code_of c) p s.now) }
 {
     let from = c.length() - c.message_length();
     let o = soft_stage::decode_word(c, tables, p, s, from, message);
@@ -63,9 +63,9 @@ fn decode_all(
 ) -> Totals
     requires filled { Filled c tables.now × (length marks.old ≤ 65535) }
     requires words_checked { WordsChecked (code_of c) p (length marks.old) symbols.now messages.old marks.old }
-    ensures result_value { totals_told result ≡ totals_of (answers_to (code_of c) p (length marks.old) symbols.now) }
-    ensures messages_after { messages.new ≡ messages_of (code_of c) (answers_to (code_of c) p (length marks.old) symbols.now) }
-    ensures marks_after { marks.new ≡ marks_of (answers_to (code_of c) p (length marks.old) symbols.now) }
+    ensures answer { totals_told result ≡ totals_of (answers_to (code_of c) p (length marks.old) symbols.now) }
+    ensures messages { messages.new ≡ messages_of (code_of c) (answers_to (code_of c) p (length marks.old) symbols.now) }
+    ensures marks { marks.new ≡ marks_of (answers_to (code_of c) p (length marks.old) symbols.now) }
 {
     let n = c.length();
     let k = c.message_length();
@@ -101,9 +101,9 @@ fn decode_all(
 pub fn decode(c: Code, p: usize, symbols: &[u8], messages: &mut [u8], marks: &mut [u8]) -> Totals
     requires made { Made c × (length marks.old ≤ 65535) }
     requires words_checked { WordsChecked (code_of c) p (length marks.old) symbols.now messages.old marks.old }
-    ensures result_value { totals_told result ≡ totals_of (answers_to (code_of c) p (length marks.old) symbols.now) }
-    ensures messages_after { messages.new ≡ messages_of (code_of c) (answers_to (code_of c) p (length marks.old) symbols.now) }
-    ensures marks_after { marks.new ≡ marks_of (answers_to (code_of c) p (length marks.old) symbols.now) }
+    ensures answer { totals_told result ≡ totals_of (answers_to (code_of c) p (length marks.old) symbols.now) }
+    ensures messages { messages.new ≡ messages_of (code_of c) (answers_to (code_of c) p (length marks.old) symbols.now) }
+    ensures marks { marks.new ≡ marks_of (answers_to (code_of c) p (length marks.old) symbols.now) }
 {
     let mut tables = [0u32; 3088];
     tables::fill_field(c, &mut tables);

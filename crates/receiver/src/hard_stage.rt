@@ -101,8 +101,8 @@ pub fn flip_at(out: &mut [u8], from: usize, f: Flips)
 fn write(c: Code, f: Flips, bits: &[u8], codeword: &mut [u8]) -> Hard
     requires bits_len { (length bits.now ≡ c.n) × (length codeword.old ≡ c.n) × Bits bits.now }
     requires repairs { Repairs (code_of c) bits.now f.found f.count f.at × (f.found ≡ true → Placed c.n f.count f.at) × ZeroFilled f }
-    ensures result_value { hard_of result ≡ hard_record (inr (hard_stage (code_of c) bits.now)) }
-    ensures codeword_after { codeword.new ≡ hard_written (code_of c) bits.now codeword.old }
+    ensures answer { hard_of result ≡ hard_record (inr (hard_stage (code_of c) bits.now)) }
+    ensures codeword { codeword.new ≡ hard_written (code_of c) bits.now codeword.old }
 {
     let found = f.found;
     if !found {
@@ -126,8 +126,8 @@ fn write(c: Code, f: Flips, bits: &[u8], codeword: &mut [u8]) -> Hard
 fn decode_in(c: Code, tables: &mut [u32], bits: &[u8], codeword: &mut [u8]) -> Hard
     requires made { Made c × (3 * 2 ^ c.m + 16 ≤ length tables.old) × Zeros tables.old }
     requires bits_len { (length bits.now ≡ c.n) × (length codeword.old ≡ c.n) × Bits bits.now }
-    ensures result_value { hard_of result ≡ hard_record (inr (hard_stage (code_of c) bits.now)) }
-    ensures codeword_after { codeword.new ≡ hard_written (code_of c) bits.now codeword.old }
+    ensures answer { hard_of result ≡ hard_record (inr (hard_stage (code_of c) bits.now)) }
+    ensures codeword { codeword.new ≡ hard_written (code_of c) bits.now codeword.old }
 {
     tables::fill_field(c, tables);
     let s = syndromes(c, tables, bits, 0);
@@ -138,8 +138,8 @@ fn decode_in(c: Code, tables: &mut [u32], bits: &[u8], codeword: &mut [u8]) -> H
 // The hard stage, with tables of its own, as large as m asks for.
 pub fn decode(c: Code, bits: &[u8], codeword: &mut [u8]) -> Hard
     requires { Made c × (length bits.now ≡ c.n) × (length codeword.old ≡ c.n) × Bits bits.now }
-    ensures result_value { hard_of result ≡ hard_record (inr (hard_stage (code_of c) bits.now)) }
-    ensures codeword_after { codeword.new ≡ hard_written (code_of c) bits.now codeword.old }
+    ensures answer { hard_of result ≡ hard_record (inr (hard_stage (code_of c) bits.now)) }
+    ensures codeword { codeword.new ≡ hard_written (code_of c) bits.now codeword.old }
 {
     if c.m <= 6 {
         let mut tables = [0u32; 208];

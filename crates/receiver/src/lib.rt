@@ -65,8 +65,8 @@ pub struct Hard {
 
 // Writes the codeword within t flips of n bits, where there is one. Any m, t, n, bits and buffer may be handed in.
 pub fn decode_hard(m: usize, t: usize, n: usize, bits: &[u8], codeword: &mut [u8]) -> Hard
-    ensures result_value { hard_of result ≡ hard_answer (code m t n) bits.now codeword.old }
-    ensures codeword_after { codeword.new ≡ hard_buffer (code m t n) bits.now codeword.old }
+    ensures answer { hard_of result ≡ hard_answer (code m t n) bits.now codeword.old }
+    ensures codeword { codeword.new ≡ hard_buffer (code m t n) bits.now codeword.old }
 {
     match refusal::of_word(m, t, n, bits, codeword.len()) {
         Named::Refused(r) => Hard {
@@ -113,8 +113,8 @@ pub fn decode_soft(
     symbols: &[u8],
     codeword: &mut [u8],
 ) -> Soft
-    ensures codeword_after { soft_of result codeword.new ≡ soft_answer (code m t n) depth symbols.now codeword.old }
-    ensures codeword_after_2 { codeword.new ≡ soft_buffer (code m t n) depth symbols.now codeword.old }
+    ensures answer { soft_of result codeword.new ≡ soft_answer (code m t n) depth symbols.now codeword.old }
+    ensures codeword { codeword.new ≡ soft_buffer (code m t n) depth symbols.now codeword.old }
 {
     match refusal::of_symbols(m, t, n, depth, symbols, codeword.len()) {
         Named::Refused(r) => Soft::Refused(r),
@@ -196,9 +196,9 @@ pub fn decode_words(
     messages: &mut [u8],
     marks: &mut [u8],
 ) -> Words
-    ensures result_value { words_of result ≡ words_answer (code m t n) depth words symbols.now messages.old marks.old }
-    ensures messages_after { messages.new ≡ messages_buffer (code m t n) depth words symbols.now messages.old marks.old }
-    ensures marks_after { marks.new ≡ marks_buffer (code m t n) depth words symbols.now messages.old marks.old }
+    ensures answer { words_of result ≡ words_answer (code m t n) depth words symbols.now messages.old marks.old }
+    ensures messages { messages.new ≡ messages_buffer (code m t n) depth words symbols.now messages.old marks.old }
+    ensures marks { marks.new ≡ marks_buffer (code m t n) depth words symbols.now messages.old marks.old }
 {
     match refusal::of_words(m, t, n, depth, words, symbols, messages.len(), marks.len()) {
         Named::Refused(r) => Words::Refused(r),

@@ -15,7 +15,7 @@
 ghost use Rattle.std.specs.Prelude.{◌≡◌, ◌≢◌, [], ◌∷◌, ◌+◌, ◌-◌, ◌*◌, ◌/◌, ◌%◌, ◌<◌, ◌≤◌, ◌^◌, min, max, length, get_or};
 ghost use Rattle.std.proofs.Math.Option.{none, some};
 ghost use Rattle.std.specs.Int.Bits.{bit_xor};
-ghost use Rattle.bch.proofs.decoding.Elements.{ifZero};
+ghost use Rattle.bch.proofs.decoding.Elements.{if_zero};
 ghost use Rattle.bch.proofs.decoding.KappaSums.{within};
 ghost use Rattle.bch.proofs.tables.CodeTables.{log_in, powers_in};
 ghost use Rattle.bch.proofs.logarithms.LogLocator.{pair_in, trio_in, cubes_in, kappa_in, locate_in};
@@ -257,7 +257,7 @@ pub fn rest_of(c: Code, tables: &[u32], s: u32) -> u32
 // The positions to flip where there is at most one error: the tables of roots are not asked.
 pub fn few(c: Code, tables: &[u32], s: u32) -> Flips
     requires { Fielded c tables.now × Syndromes c.m c.t s }
-    ensures { Located result (ifZero s (some []) (within c.n (log_in tables.now (s % 1024) ∷ []))) }
+    ensures { Located result (if_zero s (some []) (within c.n (log_in tables.now (s % 1024) ∷ []))) }
 {
     if s == 0 {
         return clean();

@@ -111,8 +111,8 @@ pub fn decode_word(
     out: &mut [u8],
 ) -> Outcome
     requires { Filled c tables.now × (p ≤ 6) × (length s.now ≡ c.n) × Symbols s.now × (from + length out.old ≡ c.n) }
-    ensures result_value { (outcome_of p s.now result ≡ soft_stage (code_of c) p s.now) × Sound c.n result.pick }
-    ensures out_after { out.new ≡ written_from from (soft_stage (code_of c) p s.now) out.old }
+    ensures answer { (outcome_of p s.now result ≡ soft_stage (code_of c) p s.now) × Sound c.n result.pick }
+    ensures out { out.new ≡ written_from from (soft_stage (code_of c) p s.now) out.old }
 {
     let keys = least_keys::keys_of(s, c.distance(), p);
     let o = search::search(c, tables, s, keys, p);
@@ -128,8 +128,8 @@ pub fn decode_word(
 fn decode_in(c: Code, tables: &mut [u32], p: usize, s: &[u8], codeword: &mut [u8]) -> Soft
     requires made { Made c × (3 * 2 ^ c.m + 16 ≤ length tables.old) × Zeros tables.old }
     requires p_bound { (p ≤ 6) × (length s.now ≡ c.n) × (length codeword.old ≡ c.n) × Symbols s.now }
-    ensures codeword_after { soft_of result codeword.new ≡ inr (soft_stage (code_of c) p s.now) }
-    ensures codeword_after_2 { codeword.new ≡ soft_written (soft_stage (code_of c) p s.now) codeword.old }
+    ensures answer { soft_of result codeword.new ≡ inr (soft_stage (code_of c) p s.now) }
+    ensures codeword { codeword.new ≡ soft_written (soft_stage (code_of c) p s.now) codeword.old }
 {
     tables::fill_field(c, tables);
     tables::fill_roots(c, tables);
@@ -139,8 +139,8 @@ fn decode_in(c: Code, tables: &mut [u32], p: usize, s: &[u8], codeword: &mut [u8
 // The soft stage, with tables of its own, as large as m asks for.
 pub fn decode(c: Code, p: usize, s: &[u8], codeword: &mut [u8]) -> Soft
     requires { Made c × (p ≤ 6) × (length s.now ≡ c.n) × (length codeword.old ≡ c.n) × Symbols s.now }
-    ensures codeword_after { soft_of result codeword.new ≡ inr (soft_stage (code_of c) p s.now) }
-    ensures codeword_after_2 { codeword.new ≡ soft_written (soft_stage (code_of c) p s.now) codeword.old }
+    ensures answer { soft_of result codeword.new ≡ inr (soft_stage (code_of c) p s.now) }
+    ensures codeword { codeword.new ≡ soft_written (soft_stage (code_of c) p s.now) codeword.old }
 {
     if c.m <= 6 {
         let mut tables = [0u32; 208];

@@ -31,8 +31,8 @@ pub extern "C" fn receiver_encode_packed(
     message: &[u8],
     codeword: &mut [u8],
 ) -> u64
-    ensures value { result ≡ check_packed (encode_refusal (code m t n) message.now codeword.old) }
-    ensures codeword_after { codeword.new ≡ encode_buffer (code m t n) message.now codeword.old }
+    ensures answer { result ≡ check_packed (encode_refusal (code m t n) message.now codeword.old) }
+    ensures codeword { codeword.new ≡ encode_buffer (code m t n) message.now codeword.old }
 {
     match encoder::encode(m, t, n, message, codeword) {
         Encoded::Refused(r) => packed::refusal(r),
@@ -49,8 +49,8 @@ pub extern "C" fn receiver_decode_hard_packed(
     bits: &[u8],
     codeword: &mut [u8],
 ) -> u64
-    ensures value { result ≡ hard_packed (hard_answer (code m t n) bits.now codeword.old) }
-    ensures codeword_after { codeword.new ≡ hard_buffer (code m t n) bits.now codeword.old }
+    ensures answer { result ≡ hard_packed (hard_answer (code m t n) bits.now codeword.old) }
+    ensures codeword { codeword.new ≡ hard_buffer (code m t n) bits.now codeword.old }
 {
     let answer = receiver::decode_hard(m, t, n, bits, codeword);
     let at = answer.at;
@@ -72,8 +72,8 @@ pub extern "C" fn receiver_decode_soft_packed(
     symbols: &[u8],
     codeword: &mut [u8],
 ) -> u64
-    ensures value { result ≡ soft_packed (soft_answer (code m t n) depth symbols.now codeword.old) }
-    ensures codeword_after { codeword.new ≡ soft_buffer (code m t n) depth symbols.now codeword.old }
+    ensures answer { result ≡ soft_packed (soft_answer (code m t n) depth symbols.now codeword.old) }
+    ensures codeword { codeword.new ≡ soft_buffer (code m t n) depth symbols.now codeword.old }
 {
     match receiver::decode_soft(m, t, n, depth, symbols, codeword) {
         Soft::Refused(r) => packed::refusal(r),
@@ -114,8 +114,8 @@ pub extern "C" fn receiver_quantise_packed(
     levels: &[f32],
     symbols: &mut [u8],
 ) -> u64
-    ensures value { result ≡ check_packed (quantise_refusal edges.now kinds.now levels.now symbols.old) }
-    ensures symbols_after { symbols.new ≡ quantise_buffer edges.now kinds.now levels.now symbols.old }
+    ensures answer { result ≡ check_packed (quantise_refusal edges.now kinds.now levels.now symbols.old) }
+    ensures symbols { symbols.new ≡ quantise_buffer edges.now kinds.now levels.now symbols.old }
 {
     match quantiser::make_ladder(edges) {
         Made::Refused(r) => packed::refusal(r),

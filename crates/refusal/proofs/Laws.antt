@@ -12,19 +12,19 @@ use Rattle.take_format.proofs.checks.CallLaws.{settings_refused, later_refused, 
 use Rattle.refusal.specs.Checked.{refusal_of}
 use Rattle.refusal.specs.Named.{record_of, named_of, named_by, Made}
 use Rattle.refusal.specs.declared.Refusal as struct
-use Rattle.refusal.specs.declared.Code as record_of
+use Rattle.refusal.specs.declared.Code as code_record
 use Rattle.refusal.specs.declared.Named.{Named}
 use Rattle.refusal.specs.declared.Named.TheVariants.{Refused, Code as Named-as-Code}
 
 -- a code is the settings' own, and they are not refused
-pub named_code : (c : record_of.Code) (o : Option Refusal) (k : Code) → named_of (Named-as-Code c) ≡ answered o (record_of k) → (o ≡ none) × (c ≡ record_of k)
+pub named_code : (c : code_record.Code) (o : Option Refusal) (k : Code) → named_of (Named-as-Code c) ≡ answered o (record_of k) → (o ≡ none) × (c ≡ record_of k)
 unfolding named_of
 named_code c o k e =
     let (n, q) = answered_inr o (record_of k) c e in
     (sym n, q)
 
 -- a refusal is what they are refused for
-pub named_refused : (r : struct.Refusal) (o : Option Refusal) (x : record_of.Code) → named_of (Refused r) ≡ answered o x → o ≡ some (refusal_of r)
+pub named_refused : (r : struct.Refusal) (o : Option Refusal) (x : code_record.Code) → named_of (Refused r) ≡ answered o x → o ≡ some (refusal_of r)
 unfolding named_of
 named_refused r o x e = sym (answered_inl o x (refusal_of r) e)
 
@@ -35,7 +35,7 @@ unfolding named_of
 named_first r k later e = answered_some _ _ _ (settings_refused k later (refusal_of r) (sym (named_refused r (first_of (settings k)) (record_of k) e)))
 
 -- .. and a code that they name is refused for that check alone
-pub named_later : (x : Named) (c : record_of.Code) (k : Code) (later : Option Refusal)
+pub named_later : (x : Named) (c : code_record.Code) (k : Code) (later : Option Refusal)
     → named_of (Named-as-Code c) ≡ answered (first_of (settings k)) (record_of k) → named_of x ≡ answered later c → named_of x ≡ named_by k later
 named_later x c k later e h =
     let (ok, same) = named_code c (first_of (settings k)) k e in

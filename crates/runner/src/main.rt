@@ -31,11 +31,9 @@ mod take_calls;
 mod weights;
 mod word_calls;
 
-use std::io::{self, BufWriter, Write};
+use std::io;
 
 fn main(rt: HostRuntime) -> io::Result<()> {
     let mut buffer = [0u8; 200000];
-    let mut out = BufWriter::new(rt.alloc(), io::writer(&rt))?;
-    lines::run_all(&mut rt.reader(), &mut out, &mut buffer)?;
-    out.flush()
+    lines::run_all(&mut rt.reader(), &mut io::writer(&rt), &mut buffer)
 }

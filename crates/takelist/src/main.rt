@@ -4,12 +4,29 @@
 // apart.
 #![tactic(auto)]
 
+ghost use Rattle.std.specs.Prelude.{◌≤◌, length, IfOk};
+
 use std::io::{self, Read};
 
+// Reads until the buffer is full or the input ends, and answers how many bytes that are.
+fn read_full(input: &mut impl Read, buffer: &mut [u8]) -> io::Result<usize>
+    ensures { IfOk result (λ count. count ≤ length buffer.new) }
+{
+    let mut done = 0;
+    while done < buffer.len() {
+        let count = input.read(&mut buffer[done..])?;
+        if count == 0 {
+            return Ok(done);
+        }
+        done += count;
+    }
+    Ok(done)
+}
+
 fn main(rt: HostRuntime) -> io::Result<()> {
-    let mut input = Vec::new(rt.alloc());
-    rt.reader().take(65537).read_to_end(&mut input)?;
+    let mut input = [0u8; 65537];
     let mut text = [0u8; 900000];
-    let length = listing::list(input.as_slice(), &mut text);
+    let got = read_full(&mut rt.reader(), &mut input)?;
+    let length = listing::list(&input[..got], &mut text);
     rt.write_all(&text[..length])
 }

@@ -11,7 +11,7 @@ use lib.Bits.{bit_xor, xor_self}
 use lib.Dec.{eqb}
 use lib.ListN.{length, length-map}
 use Rattle.galois.specs.Field.{alpha, mul}
-use Rattle.galois.proofs.Xor.{bit-cases, xor_swap, xor_bits_mul}
+use Rattle.galois.proofs.Xor.{bit_cases, xor_swap, xor_bits_mul}
 use Rattle.galois.proofs.Primitive.{Primitive}
 use Rattle.galois.proofs.FieldLaws.{alpha_nonzero, mul_alpha}
 use Rattle.galois.proofs.FieldOf.{El, field, power, power_once}
@@ -127,9 +127,9 @@ flipped_differences xs ys hx hy l = sym (flipped_whole (differences 0 xs ys) xs)
 -- bits that are not equal add up to 1
 unlike_bits : (x y : ℕ) → x < 2 → y < 2 → (x ≡ y → ⊥) → bit_xor x y ≡ 1
 unlike_bits x y hx hy =
-    bit-cases (λ (x : ℕ). (x ≡ y → ⊥) → bit_xor x y ≡ 1)
-    (bit-cases (λ (y : ℕ). (0 ≡ y → ⊥) → bit_xor 0 y ≡ 1) (λ n. absurd (n refl)) (λ n. refl) y hy)
-    (bit-cases (λ (y : ℕ). (1 ≡ y → ⊥) → bit_xor 1 y ≡ 1) (λ n. refl) (λ n. absurd (n refl)) y hy) x hx
+    bit_cases (λ (x : ℕ). (x ≡ y → ⊥) → bit_xor x y ≡ 1)
+    (bit_cases (λ (y : ℕ). (0 ≡ y → ⊥) → bit_xor 0 y ≡ 1) (λ n. absurd (n refl)) (λ n. refl) y hy)
+    (bit_cases (λ (y : ℕ). (1 ≡ y → ⊥) → bit_xor 1 y ≡ 1) (λ n. refl) (λ n. absurd (n refl)) y hy) x hx
 
 -- the power sums of two words add up to the sum over the positions where they differ
 pub sum_differences : (m i at : ℕ) (xs ys : List ℕ) → Bits xs → Bits ys → length xs ≡ length ys

@@ -13,7 +13,7 @@ use lib.Pow.{pow_pos}
 use Rattle.galois.specs.Field.{alpha, times}
 use Rattle.galois.proofs.Tests.{and_left, and_right, and_intro, or_right, or_intro, eq→eqb}
 use Rattle.galois.proofs.Primitive.{Primitive}
-use Rattle.galois.proofs.Xor.{bit-cases, xor_assoc, xor_swap, xor_bits_mul}
+use Rattle.galois.proofs.Xor.{bit_cases, xor_assoc, xor_swap, xor_bits_mul}
 use Rattle.galois.proofs.FieldLaws.{times_add, times_bit, times_zero, times_alpha, times_lt, times_xor, alpha_lt}
 use Rattle.bch.specs.Words.{Below, Bits}
 use Rattle.bch.specs.Code.{Code, power_sum_from, syndrome, is_codeword}
@@ -49,7 +49,7 @@ syndrome_sum m i xs ys hx hy e = power_sum_sum m i 0 xs ys hx hy e
 module _ (m : ℕ) (prim : Primitive m) where
   bit_alpha_lt : (b e : ℕ) → b < 2 → b * alpha m e < 2 ^ m
   bit_alpha_lt b e h =
-      bit-cases (λ (b : ℕ). b * alpha m e < 2 ^ m) (subst (λ (x : ℕ). x < 2 ^ m) (sym (zero-mul (alpha m e))) (pow_pos m))
+      bit_cases (λ (b : ℕ). b * alpha m e < 2 ^ m) (subst (λ (x : ℕ). x < 2 ^ m) (sym (zero-mul (alpha m e))) (pow_pos m))
       (subst (λ (x : ℕ). x < 2 ^ m) (sym (one-mul (alpha m e))) (alpha_lt m prim e)) b h
 
   -- a power sum is an element, ..

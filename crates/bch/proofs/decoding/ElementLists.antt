@@ -8,15 +8,15 @@ use borrow.Author.Tests.{eq-eqb, ne_eqb}
 use lib.Bits.{bit_xor}
 use Rattle.galois.specs.Field.{alpha, log, mul, over}
 use Rattle.bch.specs.Locator.{cubed, d2}
-use Rattle.bch.proofs.decoding.Elements.{elements, ifZero, zero_is, zero-not, single, pair_of, pair}
+use Rattle.bch.proofs.decoding.Elements.{elements, if_zero, zero_is, zero_not, single, pair_of, pair}
 use Rattle.bch.proofs.decoding.KappaDecoder.{e5, kappas, kappa, scale, trio, by_cubes, by_kappa}
 
 -- ---- two elements, by the table of quadratics
 
 -- two elements of sum s1 by D2, as in `pair`
 unfoldable pub pair_by : ℕ → (ℕ → ℕ) → ℕ → ℕ → List ℕ
-unfolding ifZero pair_of over
-pair_by m quad s1 d = ifZero s1 [] (pair_of m quad s1 (over m d (cubed m s1)))
+unfolding if_zero pair_of over
+pair_by m quad s1 d = if_zero s1 [] (pair_of m quad s1 (over m d (cubed m s1)))
 
 pub pair_zero : (m : ℕ) (quad : ℕ → ℕ) (s1 d : ℕ) → s1 ≡ 0 → [] ≡ pair_by m quad s1 d
 unfolding pair_by
@@ -25,7 +25,7 @@ pair_zero m quad s1 d e = sym (zero_is s1 [] (pair_of m quad s1 (over m d (cubed
 pub pair_two : (m : ℕ) (quad : ℕ → ℕ) (s1 d x : ℕ) → s1 ≢ 0 → x ≡ mul m s1 (quad (over m d (cubed m s1))) → x ∷ bit_xor x s1 ∷ [] ≡ pair_by m quad s1 d
 unfolding pair_by pair_of
 pair_two m quad s1 d x n e =
-    ap (λ (y : ℕ). y ∷ bit_xor y s1 ∷ []) e ∙ sym (zero-not s1 [] (pair_of m quad s1 (over m d (cubed m s1))) n)
+    ap (λ (y : ℕ). y ∷ bit_xor y s1 ∷ []) e ∙ sym (zero_not s1 [] (pair_of m quad s1 (over m d (cubed m s1))) n)
 
 pub pair_by_lem : (m : ℕ) (quad : ℕ → ℕ) (s1 s3 : ℕ) → pair_by m quad s1 (d2 m s1 s3) ≡ pair m quad s1 s3
 unfolding pair_by pair
@@ -71,7 +71,7 @@ module _ (m : ℕ) (first second : ℕ → ℕ) (s1 d e k : ℕ) (q : k ≡ kapp
       let hw : w ≡ second (kappa m d e) = h ∙ ap second q in
       let hu : u ≡ first (kappa m d e) = i ∙ ap first q in
       ap₂ (trio s1) (hx ∙ ap₂ (mul m) hu hf) (hy ∙ ap₂ (mul m) hw hf)
-      ∙ sym (zero-not (second (kappa m d e)) [] (trio s1 (mul m (first (kappa m d e)) (scale m d e)) (mul m (second (kappa m d e)) (scale m d e)))
+      ∙ sym (zero_not (second (kappa m d e)) [] (trio s1 (mul m (first (kappa m d e)) (scale m d e)) (mul m (second (kappa m d e)) (scale m d e)))
       (λ z. n (hw ∙ z)))
 
 -- ---- the elements that t errors can have
@@ -95,12 +95,12 @@ module _ (m : ℕ) (quad first second : ℕ → ℕ) (s1 s3 s5 : ℕ) where
   pub all_two : (t d : ℕ) → t ≡ 2 → d ≡ d2 m s1 s3 → d ≢ 0 → pair_by m quad s1 d ≡ All t
   unfolding elements
   all_two t d e q n =
-      rw e (ap (pair_by m quad s1) q ∙ pair_by_lem m quad s1 s3 ∙ sym (zero-not (d2 m s1 s3) (single s1) (pair m quad s1 s3) (λ z. n (q ∙ z))))
+      rw e (ap (pair_by m quad s1) q ∙ pair_by_lem m quad s1 s3 ∙ sym (zero_not (d2 m s1 s3) (single s1) (pair m quad s1 s3) (λ z. n (q ∙ z))))
 
   module _ (t d e : ℕ) (is : t ≡ 3) (q : d ≡ d2 m s1 s3) (n : d ≢ 0) (r : e ≡ e5 m s1 s5) where
     more : All t ≡ kappas m first second s1 s3 s5
     unfolding elements
-    more = rw is (zero-not (d2 m s1 s3) (single s1) (kappas m first second s1 s3 s5) (λ z. n (q ∙ z)))
+    more = rw is (zero_not (d2 m s1 s3) (single s1) (kappas m first second s1 s3 s5) (λ z. n (q ∙ z)))
 
     pub all_cubes : e ≡ 0 → by_cubes m s1 d ≡ All t
     unfolding kappas
@@ -112,4 +112,4 @@ module _ (m : ℕ) (quad first second : ℕ → ℕ) (s1 s3 s5 : ℕ) where
     unfolding kappas
     all_kappa z =
         ap₂ (by_kappa m first second s1) q r
-        ∙ sym (zero-not (e5 m s1 s5) (by_cubes m s1 (d2 m s1 s3)) (by_kappa m first second s1 (d2 m s1 s3) (e5 m s1 s5)) (λ k. z (r ∙ k))) ∙ sym more
+        ∙ sym (zero_not (e5 m s1 s5) (by_cubes m s1 (d2 m s1 s3)) (by_kappa m first second s1 (d2 m s1 s3) (e5 m s1 s5)) (λ k. z (r ∙ k))) ∙ sym more

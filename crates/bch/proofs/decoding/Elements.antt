@@ -34,14 +34,14 @@ pub record Quadratics (m : ℕ) (quad : ℕ → ℕ) : Type 0 where
 -- ---- the elements
 
 -- a where x is 0, and b elsewhere
-unfoldable pub ifZero {ℓ} : {A : Type ℓ} → ℕ → A → A → A
-ifZero zero a b = a
-ifZero (suc x) a b = b
+unfoldable pub if_zero {ℓ} : {A : Type ℓ} → ℕ → A → A → A
+if_zero zero a b = a
+if_zero (suc x) a b = b
 
 -- one element, or none
 unfoldable pub single : ℕ → List ℕ
-unfolding ifZero
-single s = ifZero s [] (s ∷ [])
+unfolding if_zero
+single s = if_zero s [] (s ∷ [])
 
 -- two elements of sum s, not 0: one is s·w, where w² + w = c
 unfoldable pub pair_of : ℕ → (ℕ → ℕ) → ℕ → ℕ → List ℕ
@@ -49,34 +49,34 @@ pair_of m quad s c = let x = mul m s (quad c) in x ∷ bit_xor x s ∷ []
 
 -- two elements, by s1 and s3: c = D2 / s1³
 unfoldable pub pair : ℕ → (ℕ → ℕ) → ℕ → ℕ → List ℕ
-unfolding ifZero pair_of over
-pair m quad s1 s3 = ifZero s1 [] (pair_of m quad s1 (over m (d2 m s1 s3) (cubed m s1)))
+unfolding if_zero pair_of over
+pair m quad s1 s3 = if_zero s1 [] (pair_of m quad s1 (over m (d2 m s1 s3) (cubed m s1)))
 
 -- the elements that t errors can have: D2 tells one from more, and of three errors these are `more`
 unfoldable pub elements : ℕ → (ℕ → ℕ) → (ℕ → ℕ → ℕ → List ℕ) → ℕ → ℕ → ℕ → ℕ → List ℕ
-unfolding ifZero single pair
+unfolding if_zero single pair
 elements m quad more zero s1 s3 s5 = []
 elements m quad more (suc zero) s1 s3 s5 = single s1
-elements m quad more (suc (suc zero)) s1 s3 s5 = ifZero (d2 m s1 s3) (single s1) (pair m quad s1 s3)
-elements m quad more (suc (suc (suc t))) s1 s3 s5 = ifZero (d2 m s1 s3) (single s1) (more s1 s3 s5)
+elements m quad more (suc (suc zero)) s1 s3 s5 = if_zero (d2 m s1 s3) (single s1) (pair m quad s1 s3)
+elements m quad more (suc (suc (suc t))) s1 s3 s5 = if_zero (d2 m s1 s3) (single s1) (more s1 s3 s5)
 
 -- ---- there are at most t of them
 
 -- the first of two where x is 0, ..
-pub zero_is {ℓ} : {A : Type ℓ} (x : ℕ) (a b : A) → x ≡ 0 → ifZero x a b ≡ a
-unfolding ifZero
+pub zero_is {ℓ} : {A : Type ℓ} (x : ℕ) (a b : A) → x ≡ 0 → if_zero x a b ≡ a
+unfolding if_zero
 zero_is zero a b e = refl
 zero_is (suc x) a b e = absurd (omega arith)
 
 -- .. and the second elsewhere
-pub zero-not {ℓ} : {A : Type ℓ} (x : ℕ) (a b : A) → x ≢ 0 → ifZero x a b ≡ b
-unfolding ifZero
-zero-not zero a b n = absurd (n refl)
-zero-not (suc x) a b n = refl
+pub zero_not {ℓ} : {A : Type ℓ} (x : ℕ) (a b : A) → x ≢ 0 → if_zero x a b ≡ b
+unfolding if_zero
+zero_not zero a b n = absurd (n refl)
+zero_not (suc x) a b n = refl
 
 -- it is no longer than both
-pub either_short : (x k : ℕ) (a b : List ℕ) → length a ≤ k → length b ≤ k → length (ifZero x a b) ≤ k
-unfolding ifZero
+pub either_short : (x k : ℕ) (a b : List ℕ) → length a ≤ k → length b ≤ k → length (if_zero x a b) ≤ k
+unfolding if_zero
 either_short zero k a b h l = h
 either_short (suc x) k a b h l = l
 
@@ -145,7 +145,7 @@ module _ (m : ℕ) (g : Primitive m) where
   unfolding single
   single_covers [] ok l = record { inside = λ a k. absurd (Memᴰ.not-nil k); short = omega arith }
   single_covers (x ∷ []) ok l =
-      subst (λ (C : List ℕ). Covers m C (x ∷ [])) (sym (ap single (xor_zero_r x.0) ∙ zero-not x.0 [] (x.0 ∷ []) (not_nil x ok.0)))
+      subst (λ (C : List ℕ). Covers m C (x ∷ [])) (sym (ap single (xor_zero_r x.0) ∙ zero_not x.0 [] (x.0 ∷ []) (not_nil x ok.0)))
       (record { inside = λ a k. mapping (λ (y : El m). y.0) k; short = omega arith })
   single_covers (x ∷ y ∷ A) ok l = absurd (omega arith)
 
@@ -165,7 +165,7 @@ module _ (m : ℕ) (g : Primitive m) where
         → Covers m (pair m quad (power1 K A).0 (power3 K A).0) A
     unfolding pair
     pair_covers A ok l =
-        subst (λ (C : List ℕ). Covers m C A) (sym (zero-not s.0 [] (pair_of m quad s.0 c.0) (not_nil s n)))
+        subst (λ (C : List ℕ). Covers m C A) (sym (zero_not s.0 [] (pair_of m quad s.0 c.0) (not_nil s n)))
         (record {
           inside = λ a k. mapping (λ (y : El m). y.0)
               ((closed2 K A (omega arith) n (quad_el c has) c (quad_solves c has) e a (not_zero K A ok a k)).0 k);
@@ -190,7 +190,7 @@ module _ (m : ℕ) (g : Primitive m) where
   -- D2 is 0 for at most one element
   either_covers : (A : List (El m)) → Errors K A → length A ≤ 3 → (M : List ℕ)
       → ((det2 K (power1 K A) (power3 K A) ≡ nil → ⊥) → Covers m M A)
-      → Covers m (ifZero (det2 K (power1 K A) (power3 K A)).0 (single (power1 K A).0) M) A
+      → Covers m (if_zero (det2 K (power1 K A) (power3 K A)).0 (single (power1 K A).0) M) A
   either_covers A ok l M f = pick (K.equal? D nil)
     where
       D : El m
@@ -199,11 +199,11 @@ module _ (m : ℕ) (g : Primitive m) where
       S : List ℕ
       S = single (power1 K A).0
 
-      pick : Dec (D ≡ nil) → Covers m (ifZero D.0 S M) A
+      pick : Dec (D ≡ nil) → Covers m (if_zero D.0 S M) A
       pick (yes q) =
           subst (λ (C : List ℕ). Covers m C A) (sym (zero_is D.0 S M (λ i. (q i).0)))
           (single_covers A ok ((det2_zero K A ok l).0 q))
-      pick (no n) = subst (λ (C : List ℕ). Covers m C A) (sym (zero-not D.0 S M (not_nil D n))) (f n)
+      pick (no n) = subst (λ (C : List ℕ). Covers m C A) (sym (zero_not D.0 S M (not_nil D n))) (f n)
 
   module _ (quad : ℕ → ℕ) (more : ℕ → ℕ → ℕ → List ℕ) where
     covers1 : (A : List (El m)) → Errors K A → length A ≤ 1 → (x y : ℕ) → Covers m (elements m quad more 1 (power1 K A).0 x y) A

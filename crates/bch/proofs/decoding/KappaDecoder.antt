@@ -12,7 +12,7 @@ use lib.Bits.{bit_xor}
 use lib.Dec.{eqb}
 use lib.ListN.{length}
 use Rattle.galois.specs.Field.{mul, alpha, log, over}
-use Rattle.galois.proofs.Tests.{and_intro, eq→eqb, cond-true}
+use Rattle.galois.proofs.Tests.{and_intro, eq→eqb, cond_true}
 use Rattle.galois.proofs.Primitive.{Primitive}
 use Rattle.galois.proofs.Field2.{Field2, equal_of_sum, ⊕-cancel_self, cancel}
 use Rattle.galois.proofs.Xor.{xor_zero→eq}
@@ -28,7 +28,7 @@ use Rattle.bch.proofs.codes.Positions.{cube_power, fifth_power}
 use Rattle.bch.proofs.algebra.Kappa.{slope, slope_is, moved, flat_root, AtKappa, scale_not_zero, kappa_not_zero, kappa_root, kappa_nonzero}
 use Rattle.bch.proofs.algebra.Kappa.{kappa_nonunit, member_moved, three_are, three_zero}
 use Rattle.bch.proofs.decoding.Decoder.{Covers}
-use Rattle.bch.proofs.decoding.Elements.{ifZero, zero_is, zero-not, either_short, at_most, quotient, not_nil, quotient_is, divided, quotient_only, More}
+use Rattle.bch.proofs.decoding.Elements.{if_zero, zero_is, zero_not, either_short, at_most, quotient, not_nil, quotient_is, divided, quotient_only, More}
 
 -- ---- what is computed from the syndromes
 
@@ -70,9 +70,9 @@ pub record Kappas (m : ℕ) (first second : ℕ → ℕ) : Type 0 where
 
 -- the numbers of a list but 0
 unfoldable pub nonzero : List ℕ → List ℕ
-unfolding ifZero
+unfolding if_zero
 nonzero [] = []
-nonzero (x ∷ l) = ifZero x (nonzero l) (x ∷ nonzero l)
+nonzero (x ∷ l) = if_zero x (nonzero l) (x ∷ nonzero l)
 
 -- two roots and their sum, moved by s
 unfoldable pub trio : ℕ → ℕ → ℕ → List ℕ
@@ -87,16 +87,16 @@ by_cubes m s1 d =
 
 -- elsewhere by the tables
 unfoldable pub by_kappa : ℕ → (ℕ → ℕ) → (ℕ → ℕ) → ℕ → ℕ → ℕ → List ℕ
-unfolding ifZero trio over
+unfolding if_zero trio over
 by_kappa m first second s1 d e =
     let k = kappa m d e in
     let f = scale m d e in
-    ifZero (second k) [] (trio s1 (mul m (first k) f) (mul m (second k) f))
+    if_zero (second k) [] (trio s1 (mul m (first k) f) (mul m (second k) f))
 
 -- two or three elements
 unfoldable pub kappas : ℕ → (ℕ → ℕ) → (ℕ → ℕ) → ℕ → ℕ → ℕ → List ℕ
-unfolding ifZero by_cubes by_kappa
-kappas m first second s1 s3 s5 = ifZero (e5 m s1 s5) (by_cubes m s1 (d2 m s1 s3)) (by_kappa m first second s1 (d2 m s1 s3) (e5 m s1 s5))
+unfolding if_zero by_cubes by_kappa
+kappas m first second s1 s3 s5 = if_zero (e5 m s1 s5) (by_cubes m s1 (d2 m s1 s3)) (by_kappa m first second s1 (d2 m s1 s3) (e5 m s1 s5))
 
 -- ---- the same in other forms
 
@@ -132,7 +132,7 @@ nonzero_short (x ∷ l) =
     either_short x (length (x ∷ l)) (nonzero l) (x ∷ nonzero l) (omega (arith, nonzero_short l)) (omega (arith, nonzero_short l))
 
 nonzero_shorter : (l : List ℕ) → Memᴰ 0 l → length (nonzero l) < length l
-unfolding nonzero ifZero
+unfolding nonzero if_zero
 nonzero_shorter [] x' = elim x' [ ]
 nonzero_shorter (x ∷ l) (Memᴰ.head e) = omega (arith, nonzero_short l, ap length (zero_is x (nonzero l) (x ∷ nonzero l) (sym e)))
 nonzero_shorter (x ∷ l) (Memᴰ.tail k) =
@@ -143,12 +143,12 @@ nonzero_member : (a : ℕ) (l : List ℕ) → a ≢ 0 → Memᴰ a l → Memᴰ 
 unfolding nonzero
 nonzero_member a [] n x'' = elim x'' [ ]
 nonzero_member a (x ∷ l) n (Memᴰ.head e) =
-    subst (Memᴰ a) (sym (zero-not x (nonzero l) (x ∷ nonzero l) (λ z. n (e ∙ z)))) (Memᴰ.head e)
+    subst (Memᴰ a) (sym (zero_not x (nonzero l) (x ∷ nonzero l) (λ z. n (e ∙ z)))) (Memᴰ.head e)
 nonzero_member a (x ∷ l) n (Memᴰ.tail k) = go (ℕ_discrete x 0) (nonzero_member a l n k)
   where
-    go : Dec (x ≡ 0) → Memᴰ a (nonzero l) → Memᴰ a (ifZero x (nonzero l) (x ∷ nonzero l))
+    go : Dec (x ≡ 0) → Memᴰ a (nonzero l) → Memᴰ a (if_zero x (nonzero l) (x ∷ nonzero l))
     go (yes z) i = subst (Memᴰ a) (sym (zero_is x (nonzero l) (x ∷ nonzero l) z)) i
-    go (no z) i = subst (Memᴰ a) (sym (zero-not x (nonzero l) (x ∷ nonzero l) z)) (Memᴰ.tail i)
+    go (no z) i = subst (Memᴰ a) (sym (zero_not x (nonzero l) (x ∷ nonzero l) z)) (Memᴰ.tail i)
 
 -- a trio is no more than three
 pub trio_short : (s x y : ℕ) → length (trio s x y) ≤ 3
@@ -336,7 +336,7 @@ module _ (m : ℕ) (g : Primitive m) where
     unfolding by_cubes
     cubes_cover z =
         subst (λ (C : List ℕ). Covers m C A)
-        (sym (cond-true (trio s1.0 u.0 v.0) [] (eqb ((2 ^ m - 1) % 3) 0 && eqb (log m D.0 % 3) 0)
+        (sym (cond_true (trio s1.0 u.0 v.0) [] (eqb ((2 ^ m - 1) % 3) 0 && eqb (log m D.0 % 3) 0)
         (and_intro (eqb ((2 ^ m - 1) % 3) 0) (eqb (log m D.0 % 3) 0) (eq→eqb ((2 ^ m - 1) % 3) 0 thirds.0) (eq→eqb (log m D.0 % 3) 0 thirds.1))))
         (trio_covers u v (thirds_apart D E n z thirds.0 thirds.1) (third_root D E n z thirds.0 thirds.1)
         (next_root D E n z thirds.0 thirds.1))
@@ -357,7 +357,7 @@ module _ (m : ℕ) (g : Primitive m) where
       unfolding by_kappa
       kappa_covers ne =
           subst (λ (C : List ℕ). Covers m C A)
-          (sym (zero-not (second k') [] (trio s1.0 (product m g u f').0 (product m g v f').0) (omega (arith, found.1.least))))
+          (sym (zero_not (second k') [] (trio s1.0 (product m g u f').0 (product m g v f').0) (omega (arith, found.1.least))))
           (trio_covers (product m g u f') (product m g v f') (scaled_apart D E n ne u v found.2) ((root_by_kappa D E n ne u).1 found.0)
           ((root_by_kappa D E n ne v).1 found.1))
         where
@@ -394,9 +394,9 @@ module _ (m : ℕ) (g : Primitive m) where
           Y : List ℕ
           Y = by_kappa m first second s1.0 D.0 E.0
 
-          pick : Dec (E ≡ nil) → Covers m (ifZero E.0 X Y) A
+          pick : Dec (E ≡ nil) → Covers m (if_zero E.0 X Y) A
           pick (yes z) = subst (λ (C : List ℕ). Covers m C A) (sym (zero_is E.0 X Y (λ i. (z i).0))) (cubes_cover z)
-          pick (no k) = subst (λ (C : List ℕ). Covers m C A) (sym (zero-not E.0 X Y (not_nil m g E k))) (kappa_covers k)
+          pick (no k) = subst (λ (C : List ℕ). Covers m C A) (sym (zero_not E.0 X Y (not_nil m g E k))) (kappa_covers k)
 
   -- the elements by κ are those of at most three errors
   pub kappas_more : (first second : ℕ → ℕ) → Kappas m first second → More m g (kappas m first second)

@@ -26,7 +26,7 @@ use Rattle.bch.proofs.codes.Positions.{sum_at}
 use Rattle.bch.proofs.decoding.Located.{Summed}
 use Rattle.bch.proofs.algebra.Kappa.{slope, moved, reverse3_moved, slope_by, det_by, three}
 use Rattle.bch.proofs.decoding.Decoder.{is_below, is_summed, →is_summed, when, attempted}
-use Rattle.bch.proofs.decoding.Elements.{ifZero, zero_is, zero-not}
+use Rattle.bch.proofs.decoding.Elements.{if_zero, zero_is, zero_not}
 use Rattle.bch.proofs.decoding.KappaDecoder.{e5, nonzero, trio, cubed_log, fifthed_log, trio_short}
 
 -- ---- the locator moved by S1, in numbers
@@ -102,12 +102,12 @@ module _ (m : ℕ) (g : Primitive m) where
       L = nonzero (map (λ (a : El m). a.0) A)
 
       go : Dec (a.0 ≡ 0) → sum_at m i (map (log m) L) ≡ (total K f A).0
-          → sum_at m i (map (log m) (ifZero a.0 L (a.0 ∷ L))) ≡ bit_xor (f a).0 (total K f A).0
+          → sum_at m i (map (log m) (if_zero a.0 L (a.0 ∷ L))) ≡ bit_xor (f a).0 (total K f A).0
       go (yes e) k =
           let q : (f a).0 ≡ 0 = (let p : a ≡ none m = same m e in ap (λ (b : El m). (f b).0) p ∙ z) in
           ap (λ (l : List ℕ). sum_at m i (map (log m) l)) (zero_is a.0 L (a.0 ∷ L) e) ∙ k ∙ ap (λ (x : ℕ). bit_xor x (total K f A).0) (sym q)
       go (no n) k =
-          ap (λ (l : List ℕ). sum_at m i (map (log m) l)) (zero-not a.0 L (a.0 ∷ L) n) ∙ ap₂ bit_xor (h a n) k
+          ap (λ (l : List ℕ). sum_at m i (map (log m) l)) (zero_not a.0 L (a.0 ∷ L) n) ∙ ap₂ bit_xor (h a n) k
 
   module _ (s1 s3 s5 : El m) (n : det2 K s1 s3 ≡ none m → ⊥) where
     abbrev D : El m

@@ -9,7 +9,7 @@ use mathlib.Core.Option.{Option, none, some}
 use lib.Bits.{bit_xor, xor_comm}
 use lib.ListN.{length}
 use Rattle.galois.specs.Field.{alpha}
-use Rattle.galois.proofs.Xor.{bit-cases, xor_assoc, xor_left_comm, xor_undo, xor_same}
+use Rattle.galois.proofs.Xor.{bit_cases, xor_assoc, xor_left_comm, xor_undo, xor_same}
 use Rattle.bch.specs.Words.{Below, Bits, flips, flip, flipped_at, differences}
 use Rattle.bch.specs.Code.{Code, Codeword, word_length, power_sum_from, syndrome}
 use Rattle.bch.specs.Hard.{repaired}
@@ -41,7 +41,7 @@ flips_flipped (p ∷ P) xs ys = omega (arith, flips_flipped P (flip xs p) ys, fl
 
 flip_bit : (x a s : ℕ) → x < 2 → bit_xor ((1 - x) * a) s ≡ bit_xor a (bit_xor (x * a) s)
 flip_bit x a s h =
-    bit-cases (λ (x : ℕ). bit_xor ((1 - x) * a) s ≡ bit_xor a (bit_xor (x * a) s))
+    bit_cases (λ (x : ℕ). bit_xor ((1 - x) * a) s ≡ bit_xor a (bit_xor (x * a) s))
     (ap₂ (λ (y z : ℕ). bit_xor y (bit_xor z s)) (one-mul a) (sym (zero-mul a)))
     (ap (λ (y : ℕ). bit_xor y s) (zero-mul a) ∙ sym (xor_undo a s) ∙ ap (λ (y : ℕ). bit_xor a (bit_xor y s)) (sym (one-mul a))) x h
 

@@ -13,7 +13,7 @@ use lib.Seq.{drop-cons}
 use lib.Pow.{pow_pos}
 use Rattle.galois.specs.Field.{times}
 use Rattle.galois.proofs.Primitive.{Primitive}
-use Rattle.galois.proofs.Xor.{bit-cases}
+use Rattle.galois.proofs.Xor.{bit_cases}
 use Rattle.galois.proofs.FieldLaws.{times_add, times_zero, times_xor, times_lt}
 use Rattle.bch.specs.Words.{Below, Bits}
 use Rattle.bch.specs.Code.{syndrome}
@@ -50,7 +50,7 @@ shifted_lt : (r reg b : ℕ) → reg < 2 ^ r → b < 2 → shifted r reg b < 2 *
 unfolding shifted
 shifted_lt r reg b h hb =
     let bound : (b * 2 ^ r) < 2 ^ suc r =
-    bit-cases (λ (b : ℕ). b * 2 ^ r < 2 ^ suc r) (omega (arith, pow_pos r)) (omega (arith, pow_pos r)) b hb in
+    bit_cases (λ (b : ℕ). b * 2 ^ r < 2 ^ suc r) (omega (arith, pow_pos r)) (omega (arith, pow_pos r)) b hb in
     let both : bit_xor (2 * reg) (b * 2 ^ r) < 2 ^ suc r = xor_lt (suc r) (2 * reg) (b * 2 ^ r) (omega arith) bound in
     omega arith
 

@@ -12,7 +12,7 @@ use lib.ListN.{length}
 use lib.Pow.{pow_pos}
 use Rattle.galois.specs.Field.{alpha}
 use Rattle.galois.proofs.Tests.{below, below→}
-use Rattle.galois.proofs.Xor.{bit-cases, odd_lt, xor_half, xor_swap, xor_bits_mul}
+use Rattle.galois.proofs.Xor.{bit_cases, odd_lt, xor_half, xor_swap, xor_bits_mul}
 use Rattle.bch.specs.Words.{Below, Bits}
 use Rattle.bch.specs.Code.{power_sum_from, syndrome}
 use Rattle.bch.proofs.encoding.Numbers.{number, number_inj}
@@ -66,7 +66,7 @@ recover_cong (c ∷ cs) j f h e =
 
 recover_bit : (cs : List (List ℕ)) (j b : ℕ) (f : ℕ → ℕ) → b < 2 → recover cs j (λ k. b * f k) ≡ b * recover cs j f
 recover_bit cs j b f h =
-    bit-cases (λ (b : ℕ). recover cs j (λ k. b * f k) ≡ b * recover cs j f)
+    bit_cases (λ (b : ℕ). recover cs j (λ k. b * f k) ≡ b * recover cs j f)
     (recover_cong cs j (λ k. 0 * f k) (λ k. 0) (λ k l. zero-mul (f k)) ∙ recover_zero cs j ∙ sym (zero-mul (recover cs j f)))
     (recover_cong cs j (λ k. 1 * f k) f (λ k l. one-mul (f k)) ∙ sym (one-mul (recover cs j f))) b h
 

@@ -14,7 +14,7 @@ use Rattle.galois.proofs.FieldLaws.{log_lt}
 use Rattle.bch.specs.Words.{Bits}
 use Rattle.bch.specs.Code.{Code, word_length}
 use Rattle.bch.proofs.codes.Settings.{Lawful, primitive_of}
-use Rattle.bch.proofs.decoding.Elements.{ifZero, zero_is}
+use Rattle.bch.proofs.decoding.Elements.{if_zero, zero_is}
 use Rattle.bch.proofs.decoding.KappaSums.{within}
 use Rattle.bch.proofs.decoding.Sorting.{sorted}
 use Rattle.bch.proofs.tables.Placing.{positions, Placed}
@@ -54,7 +54,7 @@ module _ (c : Code) (lawful : Lawful c) (ts : List ℕ) (field : FieldFilled c.m
 
   module _ (xs : List ℕ) (long : length xs ≡ word_length c) (bits : Bits xs) (s : ℕ) (packs : s ≡ syndromes_of c xs)
       (flat : bit_xor s (powers_in c.m ts (log_in ts (s % 1024))) ≡ 0) where
-    few_located : ifZero s (some []) (within c.n (log_in ts (s % 1024) ∷ [])) ≡ locate_in c.m c.t c.n us s
+    few_located : if_zero s (some []) (within c.n (log_in ts (s % 1024) ∷ [])) ≡ locate_in c.m c.t c.n us s
     unfolding locate_in
     few_located =
         let x = s % 1024 in
@@ -62,12 +62,12 @@ module _ (c : Code) (lawful : Lawful c) (ts : List ℕ) (field : FieldFilled c.m
         let r = bit_xor s (powers_in c.m us l1) in
         let (a, b) = same x (syndromes_in c lawful xs bits s packs).first in
         let z : r ≡ 0 = ap (bit_xor s) b ∙ flat in
-        ap (ifZero s (some []))
+        ap (if_zero s (some []))
         (ap (λ (l : ℕ). within c.n (l ∷ [])) (sym a)
         ∙ sym (zero_is r (within c.n (l1 ∷ [])) (more_in c.m c.t c.n us x l1 r) z))
 
     module _ (found : Bool) (count : ℕ) (ps : List ℕ)
-        (e : Ordered (positions found count ps) (ifZero s (some []) (within c.n (log_in ts (s % 1024) ∷ [])))) where
+        (e : Ordered (positions found count ps) (if_zero s (some []) (within c.n (log_in ts (s % 1024) ∷ [])))) where
       pub few_repairs : Repairs c xs found count ps
       few_repairs = repairs_in c lawful us tables xs long bits s packs found count ps (e ∙ ap (map sorted) few_located)
 

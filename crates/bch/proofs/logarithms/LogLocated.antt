@@ -18,7 +18,7 @@ use Rattle.galois.proofs.FieldOf.{same}
 use Rattle.bch.specs.Locator.{cubed, d2}
 use Rattle.bch.proofs.codes.Positions.{sum_at}
 use Rattle.bch.proofs.decoding.Decoder.{is_below, when, attempted}
-use Rattle.bch.proofs.decoding.Elements.{ifZero, zero_is, zero-not, single, elements}
+use Rattle.bch.proofs.decoding.Elements.{if_zero, zero_is, zero_not, single, elements}
 use Rattle.bch.proofs.decoding.KappaDecoder.{e5, by_cubes, by_kappa, kappas}
 use Rattle.bch.proofs.decoding.ElementLists.{pair_by, pair_zero, all_one, all_flat, all_two, all_cubes, all_kappa}
 use Rattle.bch.proofs.decoding.ClosedForm.{located, located_from}
@@ -132,11 +132,11 @@ module _ (m t : ℕ) (ts : List ℕ) (f : CodeTables m t ts) (n s s1 s3 s5 : ℕ
       others : Option (List ℕ)
       others = more_in m t n ts (s % 1024) (log_in ts (s % 1024)) r
 
-      go : Dec (s ≡ 0) → Dec (r ≡ 0) → ifZero s (some []) (ifZero r one others) ≡ located_in m t n ts s1 s3 s5
-      go (yes z) k = zero_is s (some []) (ifZero r one others) z ∙ none_is z
-      go (no k) (yes z) = zero-not s (some []) (ifZero r one others) k ∙ zero_is r one others z ∙ one_is k z
+      go : Dec (s ≡ 0) → Dec (r ≡ 0) → if_zero s (some []) (if_zero r one others) ≡ located_in m t n ts s1 s3 s5
+      go (yes z) k = zero_is s (some []) (if_zero r one others) z ∙ none_is z
+      go (no k) (yes z) = zero_not s (some []) (if_zero r one others) k ∙ zero_is r one others z ∙ one_is k z
       go (no k) (no j) =
-          zero-not s (some []) (ifZero r one others) k ∙ zero-not r one others j ∙ ap (λ (x : ℕ). more_in m t n ts x (log_in ts x) r) first_part ∙ more j
+          zero_not s (some []) (if_zero r one others) k ∙ zero_not r one others j ∙ ap (λ (x : ℕ). more_in m t n ts x (log_in ts x) r) first_part ∙ more j
 
 -- ---- the cases of t
 
@@ -172,19 +172,19 @@ module _ (m : ℕ) (ts : List ℕ) (n s s1 s3 s5 : ℕ) (fits : n ≤ 2 ^ m - 1)
       quad2 : ℕ → ℕ
       quad2 = quad_in m (roots_in m ts)
 
-      pick : D ≢ 0 → Dec (s1 ≡ 0) → ifZero s1 lost (pair_in m n ts (log_in ts s1) D) ≡ attempted m 2 n s1 s3 s5 (pair_by m quad2 s1 D)
+      pick : D ≢ 0 → Dec (s1 ≡ 0) → if_zero s1 lost (pair_in m n ts (log_in ts s1) D) ≡ attempted m 2 n s1 s3 s5 (pair_by m quad2 s1 D)
       pick nD (yes z) =
           zero_is s1 lost (pair_in m n ts (log_in ts s1) D) z
           ∙ attempted_lost m 2 n s1 s3 s5 [] (omega arith)
           (λ b q. nD (ap₂ (λ (u v : ℕ). bit_xor (cubed m u) v) z (sym (q.sum3 (omega arith))) ∙ xor_zero_r (cubed m 0) ∙ mul_zero_r m prim (mul m 0 0)))
           ∙ ap (attempted m 2 n s1 s3 s5) (pair_zero m quad2 s1 D z)
-      pick nD (no k) = zero-not s1 lost (pair_in m n ts (log_in ts s1) D) k ∙ pair_located m ts f n s1 s3 s5 fits h1 h3 k nD
+      pick nD (no k) = zero_not s1 lost (pair_in m n ts (log_in ts s1) D) k ∙ pair_located m ts f n s1 s3 s5 fits h1 h3 k nD
 
-      more : rr ≢ 0 → ifZero s1 lost (pair_in m n ts (log_in ts s1) (rr / 1024 % 1024)) ≡ located_in m 2 n ts s1 s3 s5
+      more : rr ≢ 0 → if_zero s1 lost (pair_in m n ts (log_in ts s1) (rr / 1024 % 1024)) ≡ located_in m 2 n ts s1 s3 s5
       more k =
           let nD : D ≢ 0 = λ z. k (parts ∙ ap (λ (x : ℕ). packed 0 x 0) z) in
           by_list m 2 ts f n s s1 s3 s5 fits h1 h3 h5 is (pair_by m quad2 s1 D)
-          (ap (λ (x : ℕ). ifZero s1 lost (pair_in m n ts (log_in ts s1) x)) part ∙ pick nD (ℕ_discrete s1 0))
+          (ap (λ (x : ℕ). if_zero s1 lost (pair_in m n ts (log_in ts s1) x)) part ∙ pick nD (ℕ_discrete s1 0))
           (all_two m quad2 (first_in m (roots_in m ts)) (second_in m (roots_in m ts)) s1 s3 s5 2 D refl refl nD)
 
   locate_three : CodeTables m 3 ts → s ≡ lower_part 3 (packed s1 s3 s5) → locate_in m 3 n ts s ≡ located_in m 3 n ts s1 s3 s5
@@ -225,13 +225,13 @@ module _ (m : ℕ) (ts : List ℕ) (n s s1 s3 s5 : ℕ) (fits : n ≤ 2 ^ m - 1)
       second3 = second_in m (roots_in m ts)
 
       branch : ℕ → ℕ → Option (List ℕ)
-      branch x y = ifZero x lost (ifZero y (cubes_in m n ts s1 x) (kappa_in m n ts s1 x y))
+      branch x y = if_zero x lost (if_zero y (cubes_in m n ts s1 x) (kappa_in m n ts s1 x y))
 
       more : rr ≢ 0 → Dec (D ≡ 0) → Dec (E ≡ 0) → branch (rr / 1024 % 1024) (rr / 1048576) ≡ located_in m 3 n ts s1 s3 s5
       more k (yes zD) (yes zE) = absurd (k (parts ∙ ap₂ (packed 0) zD zE))
       more k (yes zD) (no nE) =
           by_list m 3 ts f n s s1 s3 s5 fits h1 h3 h5 is (single s1)
-          (ap₂ branch part3 part5 ∙ zero_is D lost (ifZero E (cubes_in m n ts s1 D) (kappa_in m n ts s1 D E)) zD
+          (ap₂ branch part3 part5 ∙ zero_is D lost (if_zero E (cubes_in m n ts s1 D) (kappa_in m n ts s1 D E)) zD
           ∙ attempted_lost m 3 n s1 s3 s5 (single s1) short (λ b q. single_flat m prim 3 s1 s3 s5 h1 (omega arith) nE q))
           (flat_list m 3 ts f n s s1 s3 s5 fits h1 h3 h5 is (λ _. zD))
         where
@@ -243,14 +243,14 @@ module _ (m : ℕ) (ts : List ℕ) (n s s1 s3 s5 : ℕ) (fits : n ≤ 2 ^ m - 1)
               go (no z) = omega (arith, ap length (single_some m prim 3 s1 s3 s5 h1 z))
       more k (no nD) (yes zE) =
           by_list m 3 ts f n s s1 s3 s5 fits h1 h3 h5 is (by_cubes m s1 D)
-          (ap₂ branch part3 part5 ∙ zero-not D lost (ifZero E (cubes_in m n ts s1 D) (kappa_in m n ts s1 D E)) nD
+          (ap₂ branch part3 part5 ∙ zero_not D lost (if_zero E (cubes_in m n ts s1 D) (kappa_in m n ts s1 D E)) nD
           ∙ zero_is E (cubes_in m n ts s1 D) (kappa_in m n ts s1 D E) zE
           ∙ cubes_located m ts f n (s1, h1) (s3, h3) (s5, h5) (λ z. nD (λ i. (z i).0)) (same m zE))
           (all_cubes m quad3 first3 second3 s1 s3 s5 3 D E refl refl nD refl zE)
       more k (no nD) (no nE) =
           by_list m 3 ts f n s s1 s3 s5 fits h1 h3 h5 is (by_kappa m first3 second3 s1 D E)
-          (ap₂ branch part3 part5 ∙ zero-not D lost (ifZero E (cubes_in m n ts s1 D) (kappa_in m n ts s1 D E)) nD
-          ∙ zero-not E (cubes_in m n ts s1 D) (kappa_in m n ts s1 D E) nE
+          (ap₂ branch part3 part5 ∙ zero_not D lost (if_zero E (cubes_in m n ts s1 D) (kappa_in m n ts s1 D E)) nD
+          ∙ zero_not E (cubes_in m n ts s1 D) (kappa_in m n ts s1 D E) nE
           ∙ kappa_located m ts f n (s1, h1) (s3, h3) (s5, h5) (λ z. nD (λ i. (z i).0)) (λ z. nE (λ i. (z i).0)))
           (all_kappa m quad3 first3 second3 s1 s3 s5 3 D E refl refl nD refl nE)
 

@@ -22,7 +22,7 @@ use Rattle.bch.specs.Locator.{cubed, d2}
 use Rattle.bch.proofs.codes.Positions.{sum_at}
 use Rattle.bch.proofs.decoding.Located.{Summed}
 use Rattle.bch.proofs.decoding.Decoder.{attempted, attempted_logs, attempted_sound}
-use Rattle.bch.proofs.decoding.Elements.{ifZero, zero_is, zero-not, single}
+use Rattle.bch.proofs.decoding.Elements.{if_zero, zero_is, zero_not, single}
 use Rattle.bch.proofs.decoding.KappaDecoder.{fifthed, e5, nonzero, cubed_log, fifthed_log}
 use Rattle.bch.proofs.decoding.KappaSums.{within}
 use Rattle.bch.proofs.decoding.Sorting.{sorted}
@@ -32,15 +32,15 @@ use Rattle.bch.proofs.tables.CodeTables.{log_in, powers_in, roots_in, folded, re
 
 -- S1 w and S1 (w + 1), where w² + w = D2 / S1³
 unfoldable pub pair_in : ℕ → ℕ → List ℕ → ℕ → ℕ → Option (List ℕ)
-unfolding ifZero within reduced folded
+unfolding if_zero within reduced folded
 pair_in m n ts l1 d =
     let p = 2 ^ m - 1 in
     let r = roots_in m ts (folded m (log_in ts d + 3 * (p - l1))) in
-    ifZero r lost (within n (reduced p (l1 + r % 1024) ∷ reduced p (l1 + r / 1024) ∷ []))
+    if_zero r lost (within n (reduced p (l1 + r % 1024) ∷ reduced p (l1 + r / 1024) ∷ []))
 
 -- two roots and their sum, moved by s1
 unfoldable pub trio_in : ℕ → List ℕ → ℕ → ℕ → ℕ → Option (List ℕ)
-unfolding ifZero within
+unfolding if_zero within
 trio_in n ts s1 y1 y2 =
     let x1 = bit_xor s1 y1 in
     let x2 = bit_xor s1 y2 in
@@ -48,18 +48,18 @@ trio_in n ts s1 y1 y2 =
     let p1 = log_in ts x1 in
     let p2 = log_in ts x2 in
     let p3 = log_in ts x3 in
-    ifZero x1 (within n (p2 ∷ p3 ∷ []))
-    (ifZero x2 (within n (p1 ∷ p3 ∷ []))
-    (ifZero x3 (within n (p1 ∷ p2 ∷ []))
+    if_zero x1 (within n (p2 ∷ p3 ∷ []))
+    (if_zero x2 (within n (p1 ∷ p3 ∷ []))
+    (if_zero x3 (within n (p1 ∷ p2 ∷ []))
     (within n (p1 ∷ p2 ∷ p3 ∷ []))))
 
 -- where E is 0
 unfoldable pub cubes_in : ℕ → ℕ → List ℕ → ℕ → ℕ → Option (List ℕ)
-unfolding ifZero trio_in
+unfolding if_zero trio_in
 cubes_in m n ts s1 d =
     let p = 2 ^ m - 1 in
     let l = log_in ts d in
-    ifZero (p % 3) (ifZero (l % 3) (trio_in n ts s1 (powers_in m ts (l / 3) % 1024) (powers_in m ts (l / 3 + p / 3) % 1024)) lost) lost
+    if_zero (p % 3) (if_zero (l % 3) (trio_in n ts s1 (powers_in m ts (l / 3) % 1024) (powers_in m ts (l / 3 + p / 3) % 1024)) lost) lost
 
 -- elsewhere
 unfoldable pub kappa_in : ℕ → ℕ → List ℕ → ℕ → ℕ → ℕ → Option (List ℕ)
@@ -75,22 +75,22 @@ kappa_in m n ts s1 d e =
 
 -- where there is more than one error: from S1, its logarithm and the rest
 unfoldable pub more_in : ℕ → ℕ → ℕ → List ℕ → ℕ → ℕ → ℕ → Option (List ℕ)
-unfolding ifZero pair_in cubes_in kappa_in
+unfolding if_zero pair_in cubes_in kappa_in
 more_in m zero n ts s1 l1 r = lost
 more_in m (suc zero) n ts s1 l1 r = lost
-more_in m (suc (suc zero)) n ts s1 l1 r = ifZero s1 lost (pair_in m n ts l1 (r / 1024 % 1024))
+more_in m (suc (suc zero)) n ts s1 l1 r = if_zero s1 lost (pair_in m n ts l1 (r / 1024 % 1024))
 more_in m (suc (suc (suc t))) n ts s1 l1 r =
-    ifZero (r / 1024 % 1024) lost
-    (ifZero (r / 1048576) (cubes_in m n ts s1 (r / 1024 % 1024)) (kappa_in m n ts s1 (r / 1024 % 1024) (r / 1048576)))
+    if_zero (r / 1024 % 1024) lost
+    (if_zero (r / 1048576) (cubes_in m n ts s1 (r / 1024 % 1024)) (kappa_in m n ts s1 (r / 1024 % 1024) (r / 1048576)))
 
 -- the positions to flip for the syndromes s
 unfoldable pub locate_in : ℕ → ℕ → ℕ → List ℕ → ℕ → Option (List ℕ)
-unfolding ifZero within more_in
+unfolding if_zero within more_in
 locate_in m t n ts s =
     let s1 = s % 1024 in
     let l1 = log_in ts s1 in
     let r = bit_xor s (powers_in m ts l1) in
-    ifZero s (some []) (ifZero r (within n (l1 ∷ [])) (more_in m t n ts s1 l1 r))
+    if_zero s (some []) (if_zero r (within n (l1 ∷ [])) (more_in m t n ts s1 l1 r))
 
 -- and in order
 abbrev pub rising_in : ℕ → ℕ → ℕ → List ℕ → ℕ → Option (List ℕ)
@@ -119,7 +119,7 @@ module _ (m : ℕ) (g : Primitive m) (t s1 s3 s5 : ℕ) (h1 : s1 < 2 ^ m) where
 
   pub single_some : s1 ≢ 0 → single s1 ≡ s1 ∷ []
   unfolding single
-  single_some n = zero-not s1 [] (s1 ∷ []) n
+  single_some n = zero_not s1 [] (s1 ∷ []) n
 
   -- it adds up to the syndromes where D2 and E are 0
   pub single_summed : 1 ≤ t → (2 ≤ t → d2 m s1 s3 ≡ 0) → (3 ≤ t → e5 m s1 s5 ≡ 0) → Summed m t s1 s3 s5 (map (log m) (single s1))
@@ -168,7 +168,7 @@ nonzero_skip a l z = zero_is a (nonzero l) (a ∷ nonzero l) z
 
 pub nonzero_take : (a : ℕ) (l L : List ℕ) → a ≢ 0 → nonzero l ≡ L → nonzero (a ∷ l) ≡ a ∷ L
 unfolding nonzero
-nonzero_take a l L n e = zero-not a (nonzero l) (a ∷ nonzero l) n ∙ ap (λ (k : List ℕ). a ∷ k) e
+nonzero_take a l L n e = zero_not a (nonzero l) (a ∷ nonzero l) n ∙ ap (λ (k : List ℕ). a ∷ k) e
 
 pub nothing : nonzero [] ≡ []
 unfolding nonzero

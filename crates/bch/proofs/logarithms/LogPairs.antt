@@ -24,7 +24,7 @@ use Rattle.bch.proofs.algebra.Unique.{total}
 use Rattle.bch.proofs.codes.Positions.{sum_at}
 use Rattle.bch.proofs.decoding.Located.{Summed}
 use Rattle.bch.proofs.decoding.Decoder.{attempted}
-use Rattle.bch.proofs.decoding.Elements.{ifZero, zero_is, zero-not, quotient, divided}
+use Rattle.bch.proofs.decoding.Elements.{if_zero, zero_is, zero_not, quotient, divided}
 use Rattle.bch.proofs.algebra.Roots.{cube_not_zero}
 use Rattle.bch.proofs.tables.RootTables.{quadratic}
 use Rattle.bch.proofs.decoding.KappaDecoder.{nonzero, cubed_log}
@@ -147,7 +147,7 @@ module _ (m : ℕ) (ts : List ℕ) (f : CodeTables m 2 ts) (n s1 s3 s5 : ℕ) (f
       quad_c : quad_in m R c ≡ quad_of m r
       quad_c = ap (quad_in m R) (sym atc) ∙ quad_at m g R x r same_r
 
-      go : Dec (r ≡ 0) → ifZero r lost (within n (reduced p (l1 + r % 1024) ∷ reduced p (l1 + r / 1024) ∷ []))
+      go : Dec (r ≡ 0) → if_zero r lost (within n (reduced p (l1 + r % 1024) ∷ reduced p (l1 + r / 1024) ∷ []))
           ≡ attempted m 2 n s1 s3 s5 (pair_by m (quad_in m R) s1 d)
       go (yes z) =
           let q : 0 ≡ mul m s1 (quad_in m R c) = sym (ap (mul m s1) (quad_c ∙ quad_none m r z) ∙ mul_zero_r m g s1) in
@@ -159,7 +159,7 @@ module _ (m : ℕ) (ts : List ℕ) (f : CodeTables m 2 ts) (n s1 s3 s5 : ℕ) (f
           beyond : Below n (map (log m) (0 ∷ bit_xor 0 s1 ∷ [])) → Summed m 2 s1 s3 s5 (map (log m) (0 ∷ bit_xor 0 s1 ∷ [])) → ⊥
           beyond b s = omega (arith, b.0, log_zero m g)
       go (no nr) =
-          zero-not r lost (within n (reduced p (l1 + r % 1024) ∷ reduced p (l1 + r / 1024) ∷ [])) nr
+          zero_not r lost (within n (reduced p (l1 + r % 1024) ∷ reduced p (l1 + r / 1024) ∷ [])) nr
           ∙ ap₂ (λ (y z : ℕ). within n (y ∷ z ∷ [])) (sym log_a ∙ ap (log m) (sym is_a)) (sym log_b ∙ ap (log m) (sym is_b))
           ∙ attempted_within m 2 n s1 s3 s5 (mul m s1 w ∷ bit_xor (mul m s1 w) s1 ∷ [])
           (pair_summed m g (s1, h1) (s3, h3) s5 n1 (w, alpha_lt m g a) (pr.solves ∙ ate ∙ atc) (λ z. alpha_nonzero m g (l1 + a) (sym is_a ∙ z))

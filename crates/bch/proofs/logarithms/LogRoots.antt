@@ -16,7 +16,7 @@ use Rattle.galois.proofs.Primitive.{Primitive}
 use Rattle.galois.proofs.FieldLaws.{alpha_lt, alpha_nonzero, alpha_log, alpha_once, log_lt, mul_lt, mul_zero_l, mul_zero_r, mul_one_r}
 use Rattle.galois.proofs.Logs.{over_lt, over_is}
 use Rattle.bch.specs.Locator.{cubed}
-use Rattle.bch.proofs.decoding.Elements.{Quadratics, ifZero, zero_is, zero-not}
+use Rattle.bch.proofs.decoding.Elements.{Quadratics, if_zero, zero_is, zero_not}
 use Rattle.bch.proofs.decoding.KappaDecoder.{kappa_at, Solves, Kappas, cubed_log, up_not}
 use Rattle.bch.proofs.tables.RootTables.{quadratic, quadratic_lt}
 use Rattle.bch.proofs.decoding.ClosedForm.{Tables}
@@ -26,30 +26,30 @@ use Rattle.bch.proofs.tables.CodeTables.{PairRoots, TrioRoot, TrioRoots, CodeTab
 
 -- w, by what the list has at the exponent of w² + w
 unfoldable pub quad_of : ℕ → ℕ → ℕ
-unfolding ifZero
-quad_of m r = ifZero r 0 (alpha m (r % 1024))
+unfolding if_zero
+quad_of m r = if_zero r 0 (alpha m (r % 1024))
 
 unfoldable pub quad_in : ℕ → (ℕ → ℕ) → ℕ → ℕ
-unfolding ifZero quad_of
-quad_in m R c = ifZero c 0 (quad_of m (R (log m c)))
+unfolding if_zero quad_of
+quad_in m R c = if_zero c 0 (quad_of m (R (log m c)))
 
 -- ---- t = 3
 
 -- the last w, and the one before, by what the list has at the exponent of their κ
 unfoldable pub first_of : ℕ → ℕ → ℕ
-unfolding ifZero
-first_of m r = ifZero r 0 (alpha m (r % 1024))
+unfolding if_zero
+first_of m r = if_zero r 0 (alpha m (r % 1024))
 
 unfoldable pub second_of : ℕ → ℕ → ℕ
 second_of m r = cond (ltb r 1024) 0 (alpha m (r / 1024))
 
 unfoldable pub first_in : ℕ → (ℕ → ℕ) → ℕ → ℕ
-unfolding ifZero first_of
-first_in m R k = ifZero k 0 (first_of m (R (log m k)))
+unfolding if_zero first_of
+first_in m R k = if_zero k 0 (first_of m (R (log m k)))
 
 unfoldable pub second_in : ℕ → (ℕ → ℕ) → ℕ → ℕ
-unfolding ifZero second_of
-second_in m R k = ifZero k 0 (second_of m (R (log m k)))
+unfolding if_zero second_of
+second_in m R k = if_zero k 0 (second_of m (R (log m k)))
 
 pub second_none : (m r : ℕ) → r < 1024 → second_of m r ≡ 0
 unfolding second_of
@@ -65,30 +65,30 @@ quad_none m r h = zero_is r 0 (alpha m (r % 1024)) h
 
 pub quad_some : (m r : ℕ) → r ≢ 0 → quad_of m r ≡ alpha m (r % 1024)
 unfolding quad_of
-quad_some m r h = zero-not r 0 (alpha m (r % 1024)) h
+quad_some m r h = zero_not r 0 (alpha m (r % 1024)) h
 
 pub first_some : (m r : ℕ) → r ≢ 0 → first_of m r ≡ alpha m (r % 1024)
 unfolding first_of
-first_some m r h = zero-not r 0 (alpha m (r % 1024)) h
+first_some m r h = zero_not r 0 (alpha m (r % 1024)) h
 
 module _ (m : ℕ) (g : Primitive m) (R : ℕ → ℕ) where
   -- what is read at a power
   pub quad_at : (x r : ℕ) → r ≡ R (log m (alpha m x)) → quad_in m R (alpha m x) ≡ quad_of m r
   unfolding quad_in
-  quad_at x r e = zero-not (alpha m x) 0 (quad_of m (R (log m (alpha m x)))) (alpha_nonzero m g x) ∙ ap (quad_of m) (sym e)
+  quad_at x r e = zero_not (alpha m x) 0 (quad_of m (R (log m (alpha m x)))) (alpha_nonzero m g x) ∙ ap (quad_of m) (sym e)
 
   pub first_at : (x r : ℕ) → r ≡ R (log m (alpha m x)) → first_in m R (alpha m x) ≡ first_of m r
   unfolding first_in
-  first_at x r e = zero-not (alpha m x) 0 (first_of m (R (log m (alpha m x)))) (alpha_nonzero m g x) ∙ ap (first_of m) (sym e)
+  first_at x r e = zero_not (alpha m x) 0 (first_of m (R (log m (alpha m x)))) (alpha_nonzero m g x) ∙ ap (first_of m) (sym e)
 
   pub second_at : (x r : ℕ) → r ≡ R (log m (alpha m x)) → second_in m R (alpha m x) ≡ second_of m r
   unfolding second_in
-  second_at x r e = zero-not (alpha m x) 0 (second_of m (R (log m (alpha m x)))) (alpha_nonzero m g x) ∙ ap (second_of m) (sym e)
+  second_at x r e = zero_not (alpha m x) 0 (second_of m (R (log m (alpha m x)))) (alpha_nonzero m g x) ∙ ap (second_of m) (sym e)
 
   -- ---- they are what is asked for
 
   pub pairs_quadratics : PairRoots m (2 ^ m) R → Quadratics m (quad_in m R)
-  unfolding quad_in ifZero
+  unfolding quad_in if_zero
   pairs_quadratics f = record { below = below; solves = λ w h. solves w h (ℕ_discrete (quadratic m w) 0) }
     where
       small : (r : ℕ) → Dec (r ≡ 0) → quad_of m r < 2 ^ m
@@ -109,7 +109,7 @@ module _ (m : ℕ) (g : Primitive m) (R : ℕ → ℕ) where
           let one : w ≢ 0 = λ z. n (ap (quadratic m) z ∙ ap (λ (x : ℕ). bit_xor x 0) (mul_zero_l m g 0)) in
           let two : w ≢ 1 = λ z. n (ap (quadratic m) z ∙ ap (λ (x : ℕ). bit_xor x 1) (mul_one_r m g 1 g.room)) in
           let there : R (log m c) ≢ 0 = f.there w (omega arith) h in
-          let q : quad_in m R c ≡ alpha m (R (log m c) % 1024) = zero-not c 0 (quad_of m (R (log m c))) n ∙ quad_some m (R (log m c)) there in
+          let q : quad_in m R c ≡ alpha m (R (log m c) % 1024) = zero_not c 0 (quad_of m (R (log m c))) n ∙ quad_some m (R (log m c)) there in
           ap (quadratic m) q ∙ (f.right (log m c) (log_lt m g c (omega arith) hc) there).solves ∙ alpha_log m g c (omega arith) hc
 
   -- the logarithm l is a solution of κ = α^e
@@ -162,7 +162,7 @@ module _ (m : ℕ) (g : Primitive m) (R : ℕ → ℕ) where
 
     first_is : first_in m R k ≡ alpha m (r % 1024)
     unfolding first_in
-    first_is = zero-not k 0 (first_of m r) k_not ∙ first_some m r there
+    first_is = zero_not k 0 (first_of m r) k_not ∙ first_some m r there
 
     one : Solves m k (first_in m R k)
     one =
@@ -177,7 +177,7 @@ module _ (m : ℕ) (g : Primitive m) (R : ℕ → ℕ) where
 
       second_is : second_in m R k ≡ alpha m (r / 1024)
       unfolding second_in
-      second_is = zero-not k 0 (second_of m r) k_not ∙ second_some m r two_there
+      second_is = zero_not k 0 (second_of m r) k_not ∙ second_some m r two_there
 
       two : Solves m k (second_in m R k)
       two =

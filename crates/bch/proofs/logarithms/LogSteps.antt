@@ -11,7 +11,7 @@ use lib.Bits.{bit_xor}
 use lib.Dec.{T, ltb}
 use Rattle.bch.specs.Words.{Below}
 use Rattle.bch.proofs.decoding.Decoder.{is_below, is_below→, →is_below, when}
-use Rattle.bch.proofs.decoding.Elements.{ifZero, zero_is, zero-not}
+use Rattle.bch.proofs.decoding.Elements.{if_zero, zero_is, zero_not}
 use Rattle.bch.proofs.decoding.KappaSums.{within}
 use Rattle.bch.proofs.decoding.Sorting.{sorted, sorted_two, sorted_three}
 use Rattle.bch.proofs.tables.CodeTables.{CodeTables, log_in, powers_in, roots_in, folded, reduced}
@@ -110,18 +110,18 @@ module _ (m n : ℕ) (ts : List ℕ) (l1 d ld p e r : ℕ) (hp : p ≡ 2 ^ m - 1
       ordered_as q
       (ap₂ (λ (u v : ℕ). within n (u ∷ v ∷ [])) (hx ∙ ap₂ (λ (a b : ℕ). reduced a (l1 + b % 1024)) hp is_r)
       (hy ∙ ap₂ (λ (a b : ℕ). reduced a (l1 + b / 1024)) hp is_r)
-      ∙ sym (zero-not _ lost _ (λ z. k (is_r ∙ z))))
+      ∙ sym (zero_not _ lost _ (λ z. k (is_r ∙ z))))
 
 -- ---- two roots and their sum
 
 module _ (n : ℕ) (ts : List ℕ) (s1 y1 y2 x1 x2 x3 p1 p2 p3 : ℕ) (h1 : x1 ≡ bit_xor s1 y1) (h2 : x2 ≡ bit_xor s1 y2) (h3 : x3 ≡ bit_xor x1 y2)
     (q1 : p1 ≡ log_in ts x1) (q2 : p2 ≡ log_in ts x2) (q3 : p3 ≡ log_in ts x3) where
-  trio_as : ifZero x1 (within n (p2 ∷ p3 ∷ [])) (ifZero x2 (within n (p1 ∷ p3 ∷ []))
-      (ifZero x3 (within n (p1 ∷ p2 ∷ [])) (within n (p1 ∷ p2 ∷ p3 ∷ [])))) ≡ trio_in n ts s1 y1 y2
+  trio_as : if_zero x1 (within n (p2 ∷ p3 ∷ [])) (if_zero x2 (within n (p1 ∷ p3 ∷ []))
+      (if_zero x3 (within n (p1 ∷ p2 ∷ [])) (within n (p1 ∷ p2 ∷ p3 ∷ [])))) ≡ trio_in n ts s1 y1 y2
   unfolding trio_in
   trio_as =
       let F : ℕ → ℕ → ℕ → ℕ → ℕ → ℕ → Option (List ℕ) = λ a b c u v w.
-      ifZero a (within n (v ∷ w ∷ [])) (ifZero b (within n (u ∷ w ∷ [])) (ifZero c (within n (u ∷ v ∷ [])) (within n (u ∷ v ∷ w ∷ [])))) in
+      if_zero a (within n (v ∷ w ∷ [])) (if_zero b (within n (u ∷ w ∷ [])) (if_zero c (within n (u ∷ v ∷ [])) (within n (u ∷ v ∷ w ∷ [])))) in
       let G : ℕ → ℕ → ℕ → Option (List ℕ) = λ a b c. F a b c (log_in ts a) (log_in ts b) (log_in ts c) in
       ap₂ (λ (u v : ℕ). F x1 x2 x3 u v p3) q1 q2 ∙ ap (λ (w : ℕ). F x1 x2 x3 (log_in ts x1) (log_in ts x2) w) q3
       ∙ ap (G x1 x2) h3 ∙ ap₂ (λ (a b : ℕ). G a b (bit_xor a y2)) h1 h2
@@ -130,30 +130,30 @@ module _ (n : ℕ) (ts : List ℕ) (s1 y1 y2 x1 x2 x3 p1 p2 p3 : ℕ) (h1 : x1 �
   trio_first z e = ordered_as e (sym (zero_is x1 _ _ z) ∙ trio_as)
 
   pub trio_second : {o : Option (List ℕ)} → x1 ≢ 0 → x2 ≡ 0 → Ordered o (within n (p1 ∷ p3 ∷ [])) → Ordered o (trio_in n ts s1 y1 y2)
-  trio_second k z e = ordered_as e (sym (zero-not x1 _ _ k ∙ zero_is x2 _ _ z) ∙ trio_as)
+  trio_second k z e = ordered_as e (sym (zero_not x1 _ _ k ∙ zero_is x2 _ _ z) ∙ trio_as)
 
   pub trio_third : {o : Option (List ℕ)} → x1 ≢ 0 → x2 ≢ 0 → x3 ≡ 0 → Ordered o (within n (p1 ∷ p2 ∷ [])) → Ordered o (trio_in n ts s1 y1 y2)
-  trio_third k l z e = ordered_as e (sym (zero-not x1 _ _ k ∙ zero-not x2 _ _ l ∙ zero_is x3 _ _ z) ∙ trio_as)
+  trio_third k l z e = ordered_as e (sym (zero_not x1 _ _ k ∙ zero_not x2 _ _ l ∙ zero_is x3 _ _ z) ∙ trio_as)
 
   pub trio_all : {o : Option (List ℕ)} → x1 ≢ 0 → x2 ≢ 0 → x3 ≢ 0 → Ordered o (within n (p1 ∷ p2 ∷ p3 ∷ [])) → Ordered o (trio_in n ts s1 y1 y2)
-  trio_all k l z e = ordered_as e (sym (zero-not x1 _ _ k ∙ zero-not x2 _ _ l ∙ zero-not x3 _ _ z) ∙ trio_as)
+  trio_all k l z e = ordered_as e (sym (zero_not x1 _ _ k ∙ zero_not x2 _ _ l ∙ zero_not x3 _ _ z) ∙ trio_as)
 
 -- ---- where E is 0
 
 module _ (m n : ℕ) (ts : List ℕ) (s1 d p : ℕ) (hp : p ≡ 2 ^ m - 1) where
   abbrev found : ℕ → ℕ → Option (List ℕ)
-  found q l = ifZero (q % 3) (ifZero (l % 3) (trio_in n ts s1 (powers_in m ts (l / 3) % 1024) (powers_in m ts (l / 3 + q / 3) % 1024)) lost) lost
+  found q l = if_zero (q % 3) (if_zero (l % 3) (trio_in n ts s1 (powers_in m ts (l / 3) % 1024) (powers_in m ts (l / 3 + q / 3) % 1024)) lost) lost
 
   cubes_as : (l : ℕ) → l ≡ log_in ts d → found p l ≡ cubes_in m n ts s1 d
   unfolding cubes_in
   cubes_as l hl = ap₂ found hp hl
 
   pub cubes_lost : {o : Option (List ℕ)} → p % 3 ≢ 0 → Ordered o lost → Ordered o (cubes_in m n ts s1 d)
-  cubes_lost k e = ordered_as e (sym (zero-not (p % 3) _ lost k) ∙ cubes_as (log_in ts d) refl)
+  cubes_lost k e = ordered_as e (sym (zero_not (p % 3) _ lost k) ∙ cubes_as (log_in ts d) refl)
 
   module _ (l : ℕ) (hl : l ≡ log_in ts d) where
     pub cubes_odd : {o : Option (List ℕ)} → p % 3 ≡ 0 → l % 3 ≢ 0 → Ordered o lost → Ordered o (cubes_in m n ts s1 d)
-    cubes_odd z k e = ordered_as e (sym (zero_is (p % 3) _ lost z ∙ zero-not (l % 3) _ lost k) ∙ cubes_as l hl)
+    cubes_odd z k e = ordered_as e (sym (zero_is (p % 3) _ lost z ∙ zero_not (l % 3) _ lost k) ∙ cubes_as l hl)
 
     pub cubes_found : {o : Option (List ℕ)} → p % 3 ≡ 0 → l % 3 ≡ 0 → (x y : ℕ) → x ≡ powers_in m ts (l / 3) % 1024 → y ≡ powers_in m ts (l / 3 + p / 3) % 1024
         → Ordered o (trio_in n ts s1 x y) → Ordered o (cubes_in m n ts s1 d)
@@ -204,21 +204,21 @@ module _ (m t n : ℕ) (ts : List ℕ) (s : ℕ) where
 
   module _ (k : s ≢ 0) (s1 l1 r : ℕ) (h1 : s1 ≡ s % 1024) (hl : l1 ≡ log_in ts s1) (hr : r ≡ bit_xor s (powers_in m ts l1)) where
     abbrev tail : ℕ → ℕ → ℕ → Option (List ℕ)
-    tail a b c = ifZero c (within n (b ∷ [])) (more_in m t n ts a b c)
+    tail a b c = if_zero c (within n (b ∷ [])) (more_in m t n ts a b c)
 
     locate_as : tail s1 l1 r ≡ locate_in m t n ts s
     unfolding locate_in
     locate_as =
         let G : ℕ → ℕ → Option (List ℕ) = λ a b. tail a b (bit_xor s (powers_in m ts b)) in
         ap (tail s1 l1) hr ∙ ap (G s1) hl ∙ ap (λ (a : ℕ). G a (log_in ts a)) h1
-        ∙ sym (zero-not s (some []) (tail (s % 1024) (log_in ts (s % 1024)) (bit_xor s (powers_in m ts (log_in ts (s % 1024))))) k)
+        ∙ sym (zero_not s (some []) (tail (s % 1024) (log_in ts (s % 1024)) (bit_xor s (powers_in m ts (log_in ts (s % 1024))))) k)
 
     pub locate_one : {o : Option (List ℕ)} → r ≡ 0 → Ordered o (within n (l1 ∷ [])) → Ordered o (locate_in m t n ts s)
     locate_one z q = ordered_as q (sym (zero_is r _ _ z) ∙ locate_as)
 
     module _ (n0 : r ≢ 0) where
       more_as : {o : Option (List ℕ)} → Ordered o (more_in m t n ts s1 l1 r) → Ordered o (locate_in m t n ts s)
-      more_as q = ordered_as q (sym (zero-not r _ _ n0) ∙ locate_as)
+      more_as q = ordered_as q (sym (zero_not r _ _ n0) ∙ locate_as)
 
       pub locate_single : {o : Option (List ℕ)} → t ≡ 1 → Ordered o lost → Ordered o (locate_in m t n ts s)
       unfolding more_in
@@ -234,10 +234,10 @@ module _ (m t n : ℕ) (ts : List ℕ) (s : ℕ) where
         unfolding more_in
         locate_two e z q =
             more_as (ordered_as q (ap (pair_in m n ts l1) hd
-            ∙ sym (ap (λ (i : ℕ). more_in m i n ts s1 l1 r) e ∙ zero-not s1 lost (pair_in m n ts l1 (r / 1024 % 1024)) z)))
+            ∙ sym (ap (λ (i : ℕ). more_in m i n ts s1 l1 r) e ∙ zero_not s1 lost (pair_in m n ts l1 (r / 1024 % 1024)) z)))
 
         abbrev branch : ℕ → ℕ → Option (List ℕ)
-        branch a b = ifZero a lost (ifZero b (cubes_in m n ts s1 a) (kappa_in m n ts s1 a b))
+        branch a b = if_zero a lost (if_zero b (cubes_in m n ts s1 a) (kappa_in m n ts s1 a b))
 
         three_as : {o : Option (List ℕ)} → t ≡ 3 → (e : ℕ) → e ≡ r / 1048576 → Ordered o (branch d e) → Ordered o (locate_in m t n ts s)
         unfolding more_in
@@ -247,7 +247,7 @@ module _ (m t n : ℕ) (ts : List ℕ) (s : ℕ) where
         locate_flat h z q = three_as h (r / 1048576) refl (ordered_as q (sym (zero_is d _ _ z)))
 
         pub locate_cubes : {o : Option (List ℕ)} → t ≡ 3 → d ≢ 0 → (e : ℕ) → e ≡ r / 1048576 → e ≡ 0 → Ordered o (cubes_in m n ts s1 d) → Ordered o (locate_in m t n ts s)
-        locate_cubes h k e he z q = three_as h e he (ordered_as q (sym (zero-not d _ _ k ∙ zero_is e _ _ z)))
+        locate_cubes h k e he z q = three_as h e he (ordered_as q (sym (zero_not d _ _ k ∙ zero_is e _ _ z)))
 
         pub locate_kappa : {o : Option (List ℕ)} → t ≡ 3 → d ≢ 0 → (e : ℕ) → e ≡ r / 1048576 → e ≢ 0 → Ordered o (kappa_in m n ts s1 d e) → Ordered o (locate_in m t n ts s)
-        locate_kappa h k e he z q = three_as h e he (ordered_as q (sym (zero-not d _ _ k ∙ zero-not e _ _ z)))
+        locate_kappa h k e he z q = three_as h e he (ordered_as q (sym (zero_not d _ _ k ∙ zero_not e _ _ z)))

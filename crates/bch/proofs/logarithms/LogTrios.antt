@@ -24,7 +24,7 @@ use Rattle.bch.proofs.algebra.Peterson.{sq, det2}
 use Rattle.bch.proofs.codes.Positions.{sum_at}
 use Rattle.bch.proofs.decoding.Decoder.{attempted}
 use Rattle.bch.proofs.algebra.Kappa.{slope, moved}
-use Rattle.bch.proofs.decoding.Elements.{ifZero, zero_is, zero-not, not_nil, quotient}
+use Rattle.bch.proofs.decoding.Elements.{if_zero, zero_is, zero_not, not_nil, quotient}
 use Rattle.bch.proofs.decoding.KappaDecoder.{Solves, root_by_kappa, scaled_apart, third_root, next_root, thirds_apart, kappa, scale, fifthed}
 use Rattle.bch.proofs.decoding.KappaDecoder.{nonzero, trio, by_cubes, by_kappa, cubed_log, fifthed_log}
 use Rattle.bch.proofs.decoding.ElementLists.{cubes_none, cubes_odd, cubes_three, kappa_none, kappa_three}
@@ -84,17 +84,17 @@ module _ (m : ℕ) (ts : List ℕ) (f : CodeTables m 3 ts) (n : ℕ) where
       all = within n (p1 ∷ p2 ∷ p3 ∷ [])
 
       left : Option (List ℕ)
-      left = ifZero x3 (within n (p1 ∷ p2 ∷ [])) all
+      left = if_zero x3 (within n (p1 ∷ p2 ∷ [])) all
 
       rest : Option (List ℕ)
-      rest = ifZero x2 (within n (p1 ∷ p3 ∷ [])) left
+      rest = if_zero x2 (within n (p1 ∷ p3 ∷ [])) left
 
       two : (a b : ℕ) → a ≢ 0 → b ≢ 0 → a < 2 ^ m → b < 2 ^ m → (L : List ℕ) → L ≡ a ∷ b ∷ []
           → within n (log_in ts a ∷ log_in ts b ∷ []) ≡ within n (map (log m) L)
       two a b na nb ha hb L e =
           ap₂ (λ (u v : ℕ). within n (u ∷ v ∷ [])) (f.logs a na ha) (f.logs b nb hb) ∙ ap (λ (l : List ℕ). within n (map (log m) l)) (sym e)
 
-      go : Dec (x1 ≡ 0) → Dec (x2 ≡ 0) → Dec (x3 ≡ 0) → ifZero x1 (within n (p2 ∷ p3 ∷ [])) rest ≡ within n (map (log m) (nonzero (x1 ∷ x2 ∷ x3 ∷ [])))
+      go : Dec (x1 ≡ 0) → Dec (x2 ≡ 0) → Dec (x3 ≡ 0) → if_zero x1 (within n (p2 ∷ p3 ∷ [])) rest ≡ within n (map (log m) (nonzero (x1 ∷ x2 ∷ x3 ∷ [])))
       go (yes e) k l =
           let q : s ≡ y = xor_zero→eq s y e in
           let n2 : x2 ≢ 0 = λ o. apart (sym q ∙ xor_zero→eq s z o) in
@@ -104,15 +104,15 @@ module _ (m : ℕ) (ts : List ℕ) (f : CodeTables m 3 ts) (n : ℕ) where
       go (no n1) (yes e) l =
           let q : s ≡ z = xor_zero→eq s z e in
           let n3 : x3 ≢ 0 = λ o. ny (sym (xor_undo s y) ∙ ap (bit_xor s) (xor_zero→eq x1 z o ∙ sym q) ∙ xor_self s) in
-          zero-not x1 (within n (p2 ∷ p3 ∷ [])) rest n1 ∙ zero_is x2 (within n (p1 ∷ p3 ∷ [])) left e
+          zero_not x1 (within n (p2 ∷ p3 ∷ [])) rest n1 ∙ zero_is x2 (within n (p1 ∷ p3 ∷ [])) left e
           ∙ two x1 x3 n1 n3 h1 h3 (nonzero (x1 ∷ x2 ∷ x3 ∷ []))
           (nonzero_take x1 (x2 ∷ x3 ∷ []) (x3 ∷ []) n1 (nonzero_skip x2 (x3 ∷ []) e ∙ nonzero_take x3 [] [] n3 nothing))
       go (no n1) (no n2) (yes e) =
-          zero-not x1 (within n (p2 ∷ p3 ∷ [])) rest n1 ∙ zero-not x2 (within n (p1 ∷ p3 ∷ [])) left n2 ∙ zero_is x3 (within n (p1 ∷ p2 ∷ [])) all e
+          zero_not x1 (within n (p2 ∷ p3 ∷ [])) rest n1 ∙ zero_not x2 (within n (p1 ∷ p3 ∷ [])) left n2 ∙ zero_is x3 (within n (p1 ∷ p2 ∷ [])) all e
           ∙ two x1 x2 n1 n2 h1 h2 (nonzero (x1 ∷ x2 ∷ x3 ∷ []))
           (nonzero_take x1 (x2 ∷ x3 ∷ []) (x2 ∷ []) n1 (nonzero_take x2 (x3 ∷ []) [] n2 (nonzero_skip x3 [] e ∙ nothing)))
       go (no n1) (no n2) (no n3) =
-          zero-not x1 (within n (p2 ∷ p3 ∷ [])) rest n1 ∙ zero-not x2 (within n (p1 ∷ p3 ∷ [])) left n2 ∙ zero-not x3 (within n (p1 ∷ p2 ∷ [])) all n3
+          zero_not x1 (within n (p2 ∷ p3 ∷ [])) rest n1 ∙ zero_not x2 (within n (p1 ∷ p3 ∷ [])) left n2 ∙ zero_not x3 (within n (p1 ∷ p2 ∷ [])) all n3
           ∙ ap₂ (λ (u v : ℕ). within n (u ∷ v ∷ p3 ∷ [])) (f.logs x1 n1 h1) (f.logs x2 n2 h2)
           ∙ ap (λ (u : ℕ). within n (log m x1 ∷ log m x2 ∷ u ∷ [])) (f.logs x3 n3 h3)
           ∙ ap (λ (l : List ℕ). within n (map (log m) l))
@@ -169,14 +169,14 @@ module _ (m : ℕ) (ts : List ℕ) (f : CodeTables m 3 ts) (n : ℕ) where
         tried : Option (List ℕ)
         tried = trio_in n ts s1.0 Y Z
 
-        go : Dec (p % 3 ≡ 0) → Dec (l % 3 ≡ 0) → ifZero (p % 3) (ifZero (l % 3) tried lost) lost ≡ attempted m 3 n s1.0 s3.0 s5.0 (by_cubes m s1.0 d)
+        go : Dec (p % 3 ≡ 0) → Dec (l % 3 ≡ 0) → if_zero (p % 3) (if_zero (l % 3) tried lost) lost ≡ attempted m 3 n s1.0 s3.0 s5.0 (by_cubes m s1.0 d)
         go (no k) o =
-            zero-not (p % 3) (ifZero (l % 3) tried lost) lost k ∙ empty_lost ∙ ap (attempted m 3 n s1.0 s3.0 s5.0) (cubes_none m s1.0 d p refl k)
+            zero_not (p % 3) (if_zero (l % 3) tried lost) lost k ∙ empty_lost ∙ ap (attempted m 3 n s1.0 s3.0 s5.0) (cubes_none m s1.0 d p refl k)
         go (yes k) (no o) =
-            zero_is (p % 3) (ifZero (l % 3) tried lost) lost k ∙ zero-not (l % 3) tried lost o ∙ empty_lost
+            zero_is (p % 3) (if_zero (l % 3) tried lost) lost k ∙ zero_not (l % 3) tried lost o ∙ empty_lost
             ∙ ap (attempted m 3 n s1.0 s3.0 s5.0) (cubes_odd m s1.0 d p l refl k is_log o)
         go (yes k) (yes o) =
-            zero_is (p % 3) (ifZero (l % 3) tried lost) lost k ∙ zero_is (l % 3) tried lost o
+            zero_is (p % 3) (if_zero (l % 3) tried lost) lost k ∙ zero_is (l % 3) tried lost o
             ∙ ap₂ (trio_in n ts s1.0) at_y at_z
             ∙ trio_located y z (thirds_apart m g D E nd ze k o') (alpha_nonzero m g (log m d / 3)) (alpha_nonzero m g (log m d / 3 + p / 3))
             (third_root m g D E nd ze k o') (next_root m g D E nd ze k o')

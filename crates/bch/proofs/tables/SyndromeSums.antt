@@ -11,7 +11,7 @@ use lib.Dec.{eqb}
 use lib.ListN.{length, get_or, drop}
 use lib.Seq.{drop-cons, drop-length}
 use Rattle.galois.specs.Field.{alpha}
-use Rattle.galois.proofs.Xor.{bit-cases, xor_assoc}
+use Rattle.galois.proofs.Xor.{bit_cases, xor_assoc}
 use Rattle.galois.specs.Packed.{packed}
 use Rattle.galois.proofs.Packed.{element_lt}
 use Rattle.galois.proofs.FieldTables.{powers_of}
@@ -27,11 +27,11 @@ use Rattle.bch.proofs.tables.CodeTables.{lower_xor}
 -- ---- a bit times a number
 
 bit_mul : (b x : ℕ) → b < 2 → b * x ≤ x
-bit_mul b x h = bit-cases (λ (b : ℕ). b * x ≤ x) (omega arith) (omega arith) b h
+bit_mul b x h = bit_cases (λ (b : ℕ). b * x ≤ x) (omega arith) (omega arith) b h
 
 -- a packed one, ..
 bit_packed : (b x y z : ℕ) → b < 2 → b * packed x y z ≡ packed (b * x) (b * y) (b * z)
-bit_packed b x y z h = bit-cases (λ (b : ℕ). b * packed x y z ≡ packed (b * x) (b * y) (b * z)) (omega arith) (omega arith) b h
+bit_packed b x y z h = bit_cases (λ (b : ℕ). b * packed x y z ≡ packed (b * x) (b * y) (b * z)) (omega arith) (omega arith) b h
 
 lower_zero : (t : ℕ) → lower_part t 0 ≡ 0
 unfolding lower_part
@@ -45,7 +45,7 @@ lower_zero t = go (eqb t 1) (eqb t 2)
 -- .. and the first t parts of one
 bit_lower : (t b x : ℕ) → b < 2 → b * lower_part t x ≡ lower_part t (b * x)
 bit_lower t b x h =
-    bit-cases (λ (b : ℕ). b * lower_part t x ≡ lower_part t (b * x))
+    bit_cases (λ (b : ℕ). b * lower_part t x ≡ lower_part t (b * x))
     (zero-mul (lower_part t x) ∙ sym (lower_zero t) ∙ ap (lower_part t) (sym (zero-mul x)))
     (one-mul (lower_part t x) ∙ ap (lower_part t) (sym (one-mul x))) b h
 

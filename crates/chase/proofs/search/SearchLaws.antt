@@ -33,8 +33,8 @@ each_next P n a f i h = go (dec_lt i n)
     go (yes l) = f i l
     go (no l) = let e : n ≡ i = omega arith in subst P e a
 
-no-some {ℓ} : {A : Type 0} {X : Type ℓ} {o : Option A} {a : A} → o ≡ none → o ≡ some a → X
-no-some {a = a} e f = absurd (none-ne-some a (sym e ∙ f))
+no_some {ℓ} : {A : Type 0} {X : Type ℓ} {o : Option A} {a : A} → o ≡ none → o ≡ some a → X
+no_some {a = a} e f = absurd (none-ne-some a (sym e ∙ f))
 
 -- the marks are different
 pub lost_sure : lost ≡ sure → ⊥
@@ -92,7 +92,7 @@ module _ (code : Code) (p : ℕ) (ss : List ℕ) where
   none_next n j c e b = record {
     below = omega arith;
     found = b.found;
-    least = λ i x h q. each_next (λ i. Gave i x → L c ≤ L x) n (λ r. no-some e r) (λ k l. b.least k x l) i h q;
+    least = λ i x h q. each_next (λ i. Gave i x → L c ≤ L x) n (λ r. no_some e r) (λ k l. b.least k x l) i h q;
     lowest = b.lowest;
   }
 
@@ -121,7 +121,7 @@ module _ (code : Code) (p : ℕ) (ss : List ℕ) where
 
   state_some : (n : ℕ) (best : Option Candidate) (c : List ℕ) → Gave n c → State n best → State (suc n) (better best (made n c))
   unfolding better candidate
-  state_some n best c e (none_yet q f) = some_yet n c (rw q refl) (better_next n c e (λ i x h r. no-some (f i h) r))
+  state_some n best c e (none_yet q f) = some_yet n c (rw q refl) (better_next n c e (λ i x h r. no_some (f i h) r))
   state_some n best c e (some_yet j d q b) = rw q (go (ltb (L c) (L d)) refl)
     where
       go : (t : Bool) → ltb (L c) (L d) ≡ t
@@ -131,7 +131,7 @@ module _ (code : Code) (p : ℕ) (ss : List ℕ) where
 
   unsure_none : (n : ℕ) → Nil n → Unsure n → Unsure (suc n)
   unfolding Unsure
-  unsure_none n e u i x h q = each_next (λ i. Gave i x → A x < L x) n (λ r. no-some e r) (λ k l. u k x l) i h q
+  unsure_none n e u i x h q = each_next (λ i. Gave i x → A x < L x) n (λ r. no_some e r) (λ k l. u k x l) i h q
 
   unsure_some : (n : ℕ) (c : List ℕ) → Gave n c → A c < L c → Unsure n → Unsure (suc n)
   unfolding Unsure
@@ -220,7 +220,7 @@ module _ (code : Code) (is_code : Lawful code) (p : ℕ) (ss : List ℕ) (long :
   }
     where
       no : (j : ℕ) (c : List ℕ) → Near code p ss j c → ⊥
-      no j c n = no-some (f j n.tried) (tried_near j c n)
+      no j c n = no_some (f j n.tried) (tried_near j c n)
 
   -- a codeword written: what both marks say of it, ..
   weighed_found : (m : Mark) (k j : ℕ) (c : List ℕ) → m ≢ lost → Near code p ss j c

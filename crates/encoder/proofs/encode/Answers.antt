@@ -30,7 +30,7 @@ returns-in-Refused c =
     let old = a.codeword.now in
     let refused = named_refused c.in-Refused.r (encode_refusal w a.message.now old) _
     (sym (ap named_of c.in-Refused.is) ∙ c.of_message.ensures) in
-    record { result_value = sym refused; codeword_after = buffer_some _ _ old (encoded w a.message.now) refused }
+    record { answer = sym refused; codeword = buffer_some _ _ old (encoded w a.message.now) refused }
 
 pub returns-in-Code : goal.returns-in-Code
 unfolding bits_refusal encoded_of encode_buffer
@@ -42,4 +42,4 @@ returns-in-Code c =
     let (ok, e) = named_code c.in-Code.c (encode_refusal w xs old) w
     (sym (ap named_of c.in-Code.is) ∙ c.of_message.ensures) in
     let d = c.write.ensures in
-    record { result_value = sym ok; codeword_after = d ∙ ap (λ (k : struct.Code). encoded (code_of k) xs) e ∙ buffer_none _ old (encoded w xs) ok }
+    record { answer = sym ok; codeword = d ∙ ap (λ (k : struct.Code). encoded (code_of k) xs) e ∙ buffer_none _ old (encoded w xs) ok }

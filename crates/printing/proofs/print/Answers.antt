@@ -15,8 +15,8 @@ use Rattle.printing.proofs.print.Goals as goal
 
 pub returns-then-input-gt65536 : goal.returns-then-input-gt65536
 returns-then-input-gt65536 c =
-    let f = as_listed _ _ _ _ _ (long_output c.args.input.now c.if-input-gt65536.true) (c.list.ensures.value, (c.list.ensures.text_after, c.list.ensures.upper_bound)) in
-    record { value = f.0; text_after = f.1.0; upper_bound = f.1.1 }
+    let f = as_listed _ _ _ _ _ (long_output c.args.input.now c.if-input-gt65536.true) (c.list.ensures.value, (c.list.ensures.text, c.list.ensures.upper_bound)) in
+    record { value = f.0; text = f.1.0; upper_bound = f.1.1 }
 
 pub lay_front-requires : goal.lay_front-requires
 unfolding opening_of open_answer
@@ -31,12 +31,12 @@ pub returns-in-Refused : goal.returns-in-Refused
 unfolding opening_of
 returns-in-Refused c =
     let bs = c.args.input.now in
-    let f = as_listed _ _ _ _ _ (refused_output bs c.if-input-gt65536.false _ (sym (ap opening_of c.in-Refused.is) ∙ c.open_take.ensures)) (c.list-in-Refused.ensures.value, (c.list-in-Refused.ensures.text_after, c.list-in-Refused.ensures.upper_bound)) in
-    record { value = f.0; text_after = f.1.0; upper_bound = f.1.1 }
+    let f = as_listed _ _ _ _ _ (refused_output bs c.if-input-gt65536.false _ (sym (ap opening_of c.in-Refused.is) ∙ c.open_take.ensures)) (c.list-in-Refused.ensures.value, (c.list-in-Refused.ensures.text, c.list-in-Refused.ensures.upper_bound)) in
+    record { value = f.0; text = f.1.0; upper_bound = f.1.1 }
 
 pub returns-in-Opened : goal.returns-in-Opened
 unfolding opening_of
 returns-in-Opened c =
     let bs = c.args.input.now in
     let f = front c.lay_front.ensures (strip_output_lem bs c.if-input-gt65536.false _ (sym (ap opening_of c.in-Opened.is) ∙ c.open_take.ensures)) in
-    record { value = f.0; text_after = f.1.0; upper_bound = f.1.1 }
+    record { value = f.0; text = f.1.0; upper_bound = f.1.1 }

@@ -16,7 +16,7 @@ returns-then-levels-kinds c =
     let xs = a.levels.now in
     let ss = a.symbols.now in
     let e = samples_levels ks xs ss c.if-levels-kinds.true in
-    record { result_value = c.refuse.ensures ∙ sym e; symbols_after = buffer_some _ _ ss (quantised (edges_of a.ladder) ks xs) e }
+    record { answer = c.refuse.ensures ∙ sym e; symbols = buffer_some _ _ ss (quantised (edges_of a.ladder) ks xs) e }
 
 pub returns-then-symbols-kinds : goal.returns-then-symbols-kinds
 unfolding quantised_buffer
@@ -26,7 +26,7 @@ returns-then-symbols-kinds c =
     let xs = a.levels.now in
     let ss = a.symbols.now in
     let e = samples_room ks xs ss c.if-levels-kinds.false c.if-symbols-kinds.true in
-    record { result_value = c.refuse-then-symbols-kinds.ensures ∙ sym e; symbols_after = buffer_some _ _ ss (quantised (edges_of a.ladder) ks xs) e }
+    record { answer = c.refuse-then-symbols-kinds.ensures ∙ sym e; symbols = buffer_some _ _ ss (quantised (edges_of a.ladder) ks xs) e }
 
 pub returns-then-refuses : goal.returns-then-refuses
 unfolding quantised_buffer
@@ -37,7 +37,7 @@ returns-then-refuses c =
     let ss = a.symbols.now in
     let e = c.check-answer.ensures ∙ sym (samples_each ks xs ss c.if-levels-kinds.false
     c.if-symbols-kinds.false) in
-    record { result_value = e; symbols_after = refusal-keeps _ ss (quantised (edges_of a.ladder) ks xs) (sym (ap is_refusal e) ∙ sym c.refuses.ensures ∙ c.if-refuses.true) }
+    record { answer = e; symbols = refusal-keeps _ ss (quantised (edges_of a.ladder) ks xs) (sym (ap is_refusal e) ∙ sym c.refuses.ensures ∙ c.if-refuses.true) }
 
 pub returns : goal.returns
 unfolding quantised_buffer
@@ -51,4 +51,4 @@ returns c =
     c.if-symbols-kinds.false) in
     let passed = refusal-none _ (sym c.refuses.ensures
     ∙ c.if-refuses.false) in
-    record { result_value = e; symbols_after = c.write.ensures ∙ buffer_none _ ss (quantised (edges_of a.ladder) ks xs) (sym e ∙ passed) }
+    record { answer = e; symbols = c.write.ensures ∙ buffer_none _ ss (quantised (edges_of a.ladder) ks xs) (sym e ∙ passed) }

@@ -38,7 +38,7 @@ returns-in-Refused c =
     let refused = named_refused c.in-Refused.r (soft_refusal w a.depth a.symbols.now old) _
     (sym (ap named_of c.in-Refused.is) ∙ c.of_symbols.ensures) in
     let r = soft_stage w a.depth a.symbols.now in
-    record { codeword_after = answered_some _ _ r refused; codeword_after_2 = buffer_some _ _ old (soft_written r old) refused }
+    record { answer = answered_some _ _ r refused; codeword = buffer_some _ _ old (soft_written r old) refused }
 
 pub returns-in-Code : goal.returns-in-Code
 unfolding soft_refusal soft_answer soft_buffer
@@ -52,4 +52,4 @@ returns-in-Code c =
     (sym (ap named_of c.in-Code.is) ∙ c.of_symbols.ensures) in
     let r = soft_stage w p ss in
     let d = c.decode.ensures in
-    record { codeword_after = d.codeword_after ∙ ap (λ (k : struct.Code). inr (soft_stage (code_of k) p ss)) e ∙ answered_none _ r ok; codeword_after_2 = d.codeword_after_2 ∙ ap (λ (k : struct.Code). soft_written (soft_stage (code_of k) p ss) old) e ∙ buffer_none _ old (soft_written r old) ok }
+    record { answer = d.answer ∙ ap (λ (k : struct.Code). inr (soft_stage (code_of k) p ss)) e ∙ answered_none _ r ok; codeword = d.codeword ∙ ap (λ (k : struct.Code). soft_written (soft_stage (code_of k) p ss) old) e ∙ buffer_none _ old (soft_written r old) ok }

@@ -43,7 +43,7 @@ returns-in-Refused c =
     let refused = named_refused c.in-Refused.r (words_refusal w a.depth a.words a.symbols.now ms ks) _
     (sym (ap named_of c.in-Refused.is) ∙ c.of_words.ensures) in
     let r = answers_to w a.depth a.words a.symbols.now in
-    record { result_value = answered_some _ _ (totals_of r) refused; messages_after = buffer_some _ _ ms (messages_of w r) refused; marks_after = buffer_some _ _ ks (marks_of r) refused }
+    record { answer = answered_some _ _ (totals_of r) refused; messages = buffer_some _ _ ms (messages_of w r) refused; marks = buffer_some _ _ ks (marks_of r) refused }
 
 pub returns-in-Code : goal.returns-in-Code
 unfolding words_refusal words_of words_answer messages_buffer marks_buffer
@@ -63,4 +63,4 @@ returns-in-Code c =
     ap (λ (k : struct.Code). f (code_of k) (answers_to (code_of k) p (length ks) ss)) e ∙ ap (λ (n : ℕ). f w (answers_to w p n ss)) many in
     let totals = ap (λ (k : struct.Code). totals_of (answers_to (code_of k) p (length ks) ss)) e ∙ ap (λ (n : ℕ). totals_of (answers_to w p n ss)) many in
     let d = c.decode.ensures in
-    record { result_value = ap inr (d.result_value ∙ totals) ∙ answered_none _ (totals_of all) ok; messages_after = d.messages_after ∙ same messages_of ∙ buffer_none _ ms (messages_of w all) ok; marks_after = d.marks_after ∙ same (λ k as'. marks_of as') ∙ buffer_none _ ks (marks_of all) ok }
+    record { answer = ap inr (d.answer ∙ totals) ∙ answered_none _ (totals_of all) ok; messages = d.messages ∙ same messages_of ∙ buffer_none _ ms (messages_of w all) ok; marks = d.marks ∙ same (λ k as'. marks_of as') ∙ buffer_none _ ks (marks_of all) ok }

@@ -32,27 +32,27 @@ pub refusal-requires : goal.refusal-requires
 unfolding hard_of case_of
 refusal-requires c =
     let a = c.args in
-    hard_number (code a.m a.t a.n) a.bits.now a.codeword.now _ _ c.decode_hard-answer.ensures.result_value (ap case_of c.in-Refused.is)
+    hard_number (code a.m a.t a.n) a.bits.now a.codeword.now _ _ c.decode_hard-answer.ensures.answer (ap case_of c.in-Refused.is)
 
 pub found-requires : goal.found-requires
 unfolding hard_of
 found-requires c =
     let room : Flipped (hard_of c.decode_hard-answer.result) = let a = c.args in
-    hard_room (code a.m a.t a.n) a.bits.now a.codeword.now _ c.decode_hard-answer.ensures.result_value in
+    hard_room (code a.m a.t a.n) a.bits.now a.codeword.now _ c.decode_hard-answer.ensures.answer in
     let r = room in
     (r.count, r.inside _, r.inside _, r.inside _)
 
 pub returns-in-Refused : goal.returns-in-Refused
 returns-in-Refused c =
     let d = c.decode_hard-answer in
-    record { value = c.refusal.ensures ∙ refused-number d.result _ c.in-Refused.is ∙ ap hard_packed d.ensures.result_value; codeword_after = d.ensures.codeword_after }
+    record { answer = c.refusal.ensures ∙ refused-number d.result _ c.in-Refused.is ∙ ap hard_packed d.ensures.answer; codeword = d.ensures.codeword }
 
 pub returns-in-Lost : goal.returns-in-Lost
 returns-in-Lost c =
     let d = c.decode_hard-answer in
-    record { value = lost-number d.result c.in-Lost.is ∙ ap hard_packed d.ensures.result_value; codeword_after = d.ensures.codeword_after }
+    record { answer = lost-number d.result c.in-Lost.is ∙ ap hard_packed d.ensures.answer; codeword = d.ensures.codeword }
 
 pub returns-in-Found : goal.returns-in-Found
 returns-in-Found c =
     let d = c.decode_hard-answer in
-    record { value = c.found.ensures ∙ found_number d.result c.in-Found.is ∙ ap hard_packed d.ensures.result_value; codeword_after = d.ensures.codeword_after }
+    record { answer = c.found.ensures ∙ found_number d.result c.in-Found.is ∙ ap hard_packed d.ensures.answer; codeword = d.ensures.codeword }

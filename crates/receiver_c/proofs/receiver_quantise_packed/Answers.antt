@@ -19,7 +19,7 @@ unfolding checked
 refusal-requires-in-Refused-quantise c =
     let a = c.args in
     number_small _ (numbered_samples a.kinds.now a.levels.now a.symbols.now) _
-    (sym (ap checked c.in-Refused-quantise.is) ∙ c.quantise.ensures.result_value)
+    (sym (ap checked c.in-Refused-quantise.is) ∙ c.quantise.ensures.answer)
 
 pub returns-in-Refused : goal.returns-in-Refused
 unfolding made_of check_packed
@@ -27,7 +27,7 @@ returns-in-Refused c =
     let a = c.args in
     let e = first_ladder a.edges.now a.kinds.now a.levels.now a.symbols.now _
     (ladder_refused a.edges.now _ (sym (ap made_of c.in-Refused.is) ∙ c.make_ladder.ensures)) in
-    record { value = c.refusal.ensures ∙ ap check_packed e.0; symbols_after = e.1 }
+    record { answer = c.refusal.ensures ∙ ap check_packed e.0; symbols = e.1 }
 
 pub returns-in-Refused-quantise : goal.returns-in-Refused-quantise
 unfolding made_of checked check_packed
@@ -35,9 +35,9 @@ returns-in-Refused-quantise c =
     let a = c.args in
     let l = ladder_passed a.edges.now _ (sym (ap made_of c.in-Accepted.is) ∙ c.make_ladder.ensures) in
     let q = c.quantise.ensures in
-    let e = sym (ap checked c.in-Refused-quantise.is) ∙ q.result_value in
+    let e = sym (ap checked c.in-Refused-quantise.is) ∙ q.answer in
     let n = then_samples a.edges.now a.kinds.now a.levels.now a.symbols.now l.0 in
-    record { value = c.refusal-in-Refused-quantise.ensures ∙ ap check_packed (e ∙ n.0); symbols_after = q.symbols_after ∙ n.1 _ l.1 }
+    record { answer = c.refusal-in-Refused-quantise.ensures ∙ ap check_packed (e ∙ n.0); symbols = q.symbols ∙ n.1 _ l.1 }
 
 pub returns-in-Passed : goal.returns-in-Passed
 unfolding made_of checked check_packed
@@ -46,6 +46,6 @@ returns-in-Passed c =
     let l = ladder_passed a.edges.now _ (sym (ap made_of c.in-Accepted.is)
     ∙ c.make_ladder.ensures) in
     let q = c.quantise.ensures in
-    let e = sym (ap checked c.in-Passed.is) ∙ q.result_value in
+    let e = sym (ap checked c.in-Passed.is) ∙ q.answer in
     let n = then_samples a.edges.now a.kinds.now a.levels.now a.symbols.now l.0 in
-    record { value = ap check_packed (e ∙ n.0); symbols_after = q.symbols_after ∙ n.1 _ l.1 }
+    record { answer = ap check_packed (e ∙ n.0); symbols = q.symbols ∙ n.1 _ l.1 }

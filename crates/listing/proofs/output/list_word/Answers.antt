@@ -43,7 +43,7 @@ word-next-requires c =
     let d = c.decode_word-answer in
     let word = d.new.codeword in
     let start = c.parity-start.result in
-    let lent = lent_at a.take.now (header_of a.h) c.requires.listable.0 a.w c.requires.listable.1 c.requires.listable.2 d.auto.codeword d.ensures.codeword_after_2 in
+    let lent = lent_at a.take.now (header_of a.h) c.requires.listable.0 a.w c.requires.listable.1 c.requires.listable.2 d.auto.codeword d.ensures.codeword in
     record { bits = subst Bits (sym (rest_is word start)) (below_drop 2 start word lent.bits); message_in_bounds = omega (arith, ap length (rest_is word start), length-drop start word, lent.long, c.parity-start.ensures, c.requires.h_in_bounds) }
 
 pub returns : goal.returns
@@ -60,8 +60,8 @@ returns c =
     let word = d.new.codeword in
     let start = c.parity-start in
     let put = c.word-next.ensures in
-    let lent = lent_at bs h ok a.w l c.requires.listable.2 d.auto.codeword d.ensures.codeword_after_2 in
-    let answer = d.ensures.codeword_after ∙ (answered_at bs h ok a.w l a.codeword.now c.requires.listable.2.long).0 in
+    let lent = lent_at bs h ok a.w l c.requires.listable.2 d.auto.codeword d.ensures.codeword in
+    let answer = d.ensures.answer ∙ (answered_at bs h ok a.w l a.codeword.now c.requires.listable.2.long).0 in
     let behind = rest_is word start.result ∙ ap (λ (n : ℕ). drop n word) start.ensures in
     let few = few_more a.w k c.requires.listable.3 (mark_byte x.mark) x.tries (tries_at bs h ok a.w l) in
     let told = c.counted.ensures ∙ counts k _ word x answer

@@ -20,7 +20,7 @@ word-next-requires c =
     let h = header_of a.h in
     let ok = c.requires.printable.0 in
     let l = c.requires.printable.1 in
-    let answer = c.decode_word-answer.ensures.codeword_after ∙ (answered_at a.take.now h ok.reading a.w l a.codeword.now c.requires.printable.2).0 in (
+    let answer = c.decode_word-answer.ensures.answer ∙ (answered_at a.take.now h ok.reading a.w l a.codeword.now c.requires.printable.2).0 in (
       narrow_any a.w _ c.decode_word-answer.new.codeword (answer_at a.take.now h a.w) answer (narrow_at a.take.now h ok a.w l),
       omega (arith, c.requires.w_in_bounds, c.page-start.ensures.ends, c.page-start.auto.text),
     )
@@ -35,7 +35,7 @@ returns c =
     let k = totals_told a.k.totals in
     let x = answer_at a.take.now h a.w in
     let word = c.decode_word-answer.new.codeword in
-    let answer = c.decode_word-answer.ensures.codeword_after ∙ (answered_at a.take.now h ok.reading a.w l a.codeword.now c.requires.printable.2).0 in
+    let answer = c.decode_word-answer.ensures.answer ∙ (answered_at a.take.now h ok.reading a.w l a.codeword.now c.requires.printable.2).0 in
     let few = few_more a.w k c.requires.printable.3 (mark_byte x.mark) x.tries (tries_at a.take.now h ok.reading a.w l) in
     let told =
     c.counted.ensures ∙ counts k _ word x answer

@@ -13,4 +13,4 @@ pub decode_all-requires : goal.decode_all-requires
 decode_all-requires c = record { filled = (c.fill_roots.ensures, c.requires.made.1); words_checked = c.requires.words_checked }
 
 pub returns : goal.returns
-returns c = record { result_value = c.decode_all.ensures.result_value; messages_after = c.decode_all.ensures.messages_after; marks_after = c.decode_all.ensures.marks_after }
+returns c = record { answer = c.decode_all.ensures.answer; messages = c.decode_all.ensures.messages; marks = c.decode_all.ensures.marks }

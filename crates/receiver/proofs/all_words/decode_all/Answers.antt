@@ -312,17 +312,17 @@ loop-w-preserved c =
     let counted = counted_of (totals_told l.totals) m.result w.result.tries in
     let few =
     few_more l.w (totals_told l.totals) l.invariant.6 m.result w.result.tries
-    (at_most _ _ _ w.ensures.result_value.1 tried (pow_mono c.requires.words_checked.depth)) in
+    (at_most _ _ _ w.ensures.answer.1 tried (pow_mono c.requires.words_checked.depth)) in
     let told : totals_told c.add-totals.result ≡ counted =
     c.add-totals.ensures ∙ few_capped (l.w + 1) counted few (words-few _ _ h c.requires.filled.1) in
-    let written = ap length w.ensures.message_after ∙ message_long b made.lawful fits a.p ss full symbols in
+    let written = ap length w.ensures.message ∙ message_long b made.lawful fits a.p ss full symbols in
     let room = (inside l.w h).2 in
     let done =
     done_more b a.p (xs) l.w l.messages l.marks (totals_told l.totals) l.invariant.5 l.to m.result w.result.tries _ _ l.invariant.2
     (begins _ _ _ _ _ l.invariant.2 l.invariant.3 room) c.loop-w-test.true
-    (w.ensures.message_after ∙ ap (λ (ss : List ℕ). message b (soft_stage b a.p ss)) e) written
-    (m.ensures ∙ w.ensures.result_value.0 ∙ ap (λ (ss : List ℕ). mark_byte (soft_stage b a.p ss).mark) e)
-    (w.ensures.result_value.1 ∙ ap (λ (ss : List ℕ). (soft_stage b a.p ss).tries) e) in (
+    (w.ensures.message ∙ ap (λ (ss : List ℕ). message b (soft_stage b a.p ss)) e) written
+    (m.ensures ∙ w.ensures.answer.0 ∙ ap (λ (ss : List ℕ). mark_byte (soft_stage b a.p ss).mark) e)
+    (w.ensures.answer.1 ∙ ap (λ (ss : List ℕ). (soft_stage b a.p ss).tries) e) in (
       next_word _ _ h,
       more l.w a.c.n l.at n.result n.ensures l.invariant.1,
       more l.w (long) l.to k.result is-k l.invariant.2,
@@ -343,4 +343,4 @@ returns c =
     let e : l.w ≡ words = all_done _ _ _ l.invariant.4 c.loop-w-test.false l.invariant.0 in
     let d = done_end (code) a.p (xs) l.w l.messages l.marks _ l.invariant.5
     (l.invariant.3 ∙ c.requires.words_checked.messages_room ∙ ap (λ (x : ℕ). x * long) (sym e)) (l.invariant.4 ∙ sym e) in
-    record { result_value = rw e at d.0; messages_after = rw e at d.1; marks_after = rw e at d.2 }
+    record { answer = rw e at d.0; messages = rw e at d.1; marks = rw e at d.2 }

@@ -27,4 +27,4 @@ write-requires c =
     record { bits_len = c.requires.bits_len; repairs = c.located-f.ensures c.args.bits.now c.requires.bits_len.0 c.requires.bits_len.2 is }
 
 pub returns : goal.returns
-returns c = record { result_value = c.write.ensures.result_value; codeword_after = c.write.ensures.codeword_after }
+returns c = record { answer = c.write.ensures.answer; codeword = c.write.ensures.codeword }

@@ -25,7 +25,7 @@ returns-then-not-found c =
     let a = c.args in
     let f = a.f in
     let h = lost_answer_lem (code_of a.c) a.bits.now f.found f.count f.at c.requires.repairs.0 (not-true _ (ap not c.if-not-found.true)) a.codeword.now in
-    record { result_value = ap (λ (o : Option Repair). hard_record (inr o)) h.0; codeword_after = h.1 }
+    record { answer = ap (λ (o : Option Repair). hard_record (inr o)) h.0; codeword = h.1 }
 
 pub flip_at-requires : goal.flip_at-requires
 flip_at-requires c =
@@ -42,8 +42,8 @@ returns c =
     let room : f.count ≤ length f.at = omega (arith, p.few, p.long) in
     let h = found_answer (code_of a.c) a.bits.now f.found f.count f.at c.requires.repairs.0 z a.codeword.now in
     record {
-      result_value = ap₂ (λ (k : ℕ) (ps : List ℕ). record { case = found; count = k; places = ps }) (sym (length-take-le f.count f.at room)) c.requires.repairs.2
+      answer = ap₂ (λ (k : ℕ) (ps : List ℕ). record { case = found; count = k; places = ps }) (sym (length-take-le f.count f.at room)) c.requires.repairs.2
           ∙ ap (λ (o : Option Repair). hard_record (inr o)) h.0;
-      codeword_after = c.flip_at.ensures ∙ flipped_whole (take f.count f.at) _
+      codeword = c.flip_at.ensures ∙ flipped_whole (take f.count f.at) _
           ∙ ap (flipped_at (take f.count f.at)) c.copy.ensures ∙ h.1;
     }

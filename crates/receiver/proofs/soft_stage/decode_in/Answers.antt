@@ -18,12 +18,12 @@ decode_word-requires c =
     (c.fill_roots.ensures, n.0, n.1, n.3, zero-add _ ∙ n.2)
 
 pub tell-requires : goal.tell-requires
-tell-requires c = (c.decode_word.ensures.result_value.1.sum_small, c.decode_word.ensures.result_value.1.allowed_small)
+tell-requires c = (c.decode_word.ensures.answer.1.sum_small, c.decode_word.ensures.answer.1.allowed_small)
 
 pub returns : goal.returns
 returns c =
     let a = c.args in
     let d = c.decode_word in
     let stage = soft_stage (code_of a.c) a.p a.s.now in
-    let written = d.ensures.out_after ∙ written_whole stage a.codeword.now in
-    record { codeword_after = answer_told a.p a.s.now a.codeword.now d.result _ stage c.tell.result written d.ensures.result_value.0 c.tell.ensures; codeword_after_2 = written }
+    let written = d.ensures.out ∙ written_whole stage a.codeword.now in
+    record { answer = answer_told a.p a.s.now a.codeword.now d.result _ stage c.tell.result written d.ensures.answer.0 c.tell.ensures; codeword = written }

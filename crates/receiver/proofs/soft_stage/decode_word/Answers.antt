@@ -40,8 +40,8 @@ returns-then-not-found c =
     let o = c.search-o in
     let old = a.out.now in
     record {
-      result_value = o.ensures;
-      out_after = written_none a.p a.s.now a.from o.result old (not-true _ (ap not c.if-not-found.true))
+      answer = o.ensures;
+      out = written_none a.p a.s.now a.from o.result old (not-true _ (ap not c.if-not-found.true))
           ∙ ap (λ (x : Answer). written_from a.from x old) o.ensures.0;
     }
 
@@ -54,8 +54,8 @@ returns c =
     let o = c.search-o in
     let old = a.out.now in
     record {
-      result_value = o.ensures;
-      out_after = c.write_word.ensures
+      answer = o.ensures;
+      out = c.write_word.ensures
           ∙ written_some a.p a.s.now a.from o.result old (not-false _ (ap not c.if-not-found.false))
           ∙ ap (λ (x : Answer). written_from a.from x old) o.ensures.0;
     }
