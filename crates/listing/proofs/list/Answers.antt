@@ -12,7 +12,11 @@ use Rattle.listing.proofs.list.Goals as goal
 
 pub returns-then-input-gt65536 : goal.returns-then-input-gt65536
 unfolding too_long ascii line
-returns-then-input-gt65536 c = record { value = (front c.characters.ensures (long_input c.args.input.now c.if-input-gt65536.true)).0; text = (front c.characters.ensures (long_input c.args.input.now c.if-input-gt65536.true)).1.0; upper_bound = (front c.characters.ensures (long_input c.args.input.now c.if-input-gt65536.true)).1.1 }
+returns-then-input-gt65536 c = record {
+  value = (front c.characters.ensures (long_input c.args.input.now c.if-input-gt65536.true)).0;
+  text = (front c.characters.ensures (long_input c.args.input.now c.if-input-gt65536.true)).1.0;
+  upper_bound = (front c.characters.ensures (long_input c.args.input.now c.if-input-gt65536.true)).1.1;
+}
 
 pub list_take-requires : goal.list_take-requires
 unfolding opening_of open_answer
@@ -27,11 +31,19 @@ unfolding opening_of open_text
 returns-in-Refused c =
     let bs = c.args.input.now in
     let e = sym (ap opening_of c.in-Refused.is) ∙ c.open_take.ensures in
-    record { value = (front c.refused.ensures (opened_input bs c.if-input-gt65536.false _ e)).0; text = (front c.refused.ensures (opened_input bs c.if-input-gt65536.false _ e)).1.0; upper_bound = (front c.refused.ensures (opened_input bs c.if-input-gt65536.false _ e)).1.1 }
+    record {
+      value = (front c.refused.ensures (opened_input bs c.if-input-gt65536.false _ e)).0;
+      text = (front c.refused.ensures (opened_input bs c.if-input-gt65536.false _ e)).1.0;
+      upper_bound = (front c.refused.ensures (opened_input bs c.if-input-gt65536.false _ e)).1.1;
+    }
 
 pub returns-in-Opened : goal.returns-in-Opened
 unfolding opening_of open_text
 returns-in-Opened c =
     let bs = c.args.input.now in
     let e = sym (ap opening_of c.in-Opened.is) ∙ c.open_take.ensures in
-    record { value = (front c.list_take.ensures (opened_input bs c.if-input-gt65536.false _ e)).0; text = (front c.list_take.ensures (opened_input bs c.if-input-gt65536.false _ e)).1.0; upper_bound = (front c.list_take.ensures (opened_input bs c.if-input-gt65536.false _ e)).1.1 }
+    record {
+      value = (front c.list_take.ensures (opened_input bs c.if-input-gt65536.false _ e)).0;
+      text = (front c.list_take.ensures (opened_input bs c.if-input-gt65536.false _ e)).1.0;
+      upper_bound = (front c.list_take.ensures (opened_input bs c.if-input-gt65536.false _ e)).1.1;
+    }

@@ -37,7 +37,10 @@ returns-then-refuses c =
     let ss = a.symbols.now in
     let e = c.check-answer.ensures ∙ sym (samples_each ks xs ss c.if-levels-kinds.false
     c.if-symbols-kinds.false) in
-    record { answer = e; symbols = refusal-keeps _ ss (quantised (edges_of a.ladder) ks xs) (sym (ap is_refusal e) ∙ sym c.refuses.ensures ∙ c.if-refuses.true) }
+    record {
+      answer = e;
+      symbols = refusal-keeps _ ss (quantised (edges_of a.ladder) ks xs) (sym (ap is_refusal e) ∙ sym c.refuses.ensures ∙ c.if-refuses.true);
+    }
 
 pub returns : goal.returns
 unfolding quantised_buffer

@@ -34,7 +34,10 @@ returns-in-Refused c =
     let w = code a.m a.t a.n in
     let old = a.codeword.now in
     let refused = named_refused c.in-Refused.r (hard_refusal w a.bits.now old) _ (sym (ap named_of c.in-Refused.is) ∙ c.of_word.ensures) in
-    record { answer = ap hard_record (answered_some _ _ (hard_stage w a.bits.now) refused); codeword = buffer_some _ _ old (hard_written w a.bits.now old) refused }
+    record {
+      answer = ap hard_record (answered_some _ _ (hard_stage w a.bits.now) refused);
+      codeword = buffer_some _ _ old (hard_written w a.bits.now old) refused;
+    }
 
 pub returns-in-Code : goal.returns-in-Code
 unfolding bits_refusal hard_answer hard_buffer
@@ -46,4 +49,7 @@ returns-in-Code c =
     let (ok, e) = named_code c.in-Code.c (hard_refusal w xs old) w
     (sym (ap named_of c.in-Code.is) ∙ c.of_word.ensures) in
     let d = c.decode.ensures in
-    record { answer = d.answer ∙ ap (λ (k : struct.Code). hard_record (inr (hard_stage (code_of k) xs))) e ∙ ap hard_record (answered_none _ (hard_stage w xs) ok); codeword = d.codeword ∙ ap (λ (k : struct.Code). hard_written (code_of k) xs old) e ∙ buffer_none _ old (hard_written w xs old) ok }
+    record {
+      answer = d.answer ∙ ap (λ (k : struct.Code). hard_record (inr (hard_stage (code_of k) xs))) e ∙ ap hard_record (answered_none _ (hard_stage w xs) ok);
+      codeword = d.codeword ∙ ap (λ (k : struct.Code). hard_written (code_of k) xs old) e ∙ buffer_none _ old (hard_written w xs old) ok;
+    }

@@ -52,4 +52,7 @@ returns-in-Code c =
     (sym (ap named_of c.in-Code.is) ∙ c.of_symbols.ensures) in
     let r = soft_stage w p ss in
     let d = c.decode.ensures in
-    record { answer = d.answer ∙ ap (λ (k : struct.Code). inr (soft_stage (code_of k) p ss)) e ∙ answered_none _ r ok; codeword = d.codeword ∙ ap (λ (k : struct.Code). soft_written (soft_stage (code_of k) p ss) old) e ∙ buffer_none _ old (soft_written r old) ok }
+    record {
+      answer = d.answer ∙ ap (λ (k : struct.Code). inr (soft_stage (code_of k) p ss)) e ∙ answered_none _ r ok;
+      codeword = d.codeword ∙ ap (λ (k : struct.Code). soft_written (soft_stage (code_of k) p ss) old) e ∙ buffer_none _ old (soft_written r old) ok;
+    }

@@ -31,7 +31,10 @@ decode-requires c =
     (sym (ap named_of c.in-Code.is) ∙ c.of_words.ensures) in
     let (is, h) = words_accepted w p a.words ss ms ks ok in
     let as_many = subst (λ (W : ℕ). WordsChecked w p W ss ms ks) (sym h.marks_room) h in
-    record { made = (subst Made (sym e) (made a.m a.t a.n is), omega (arith, h.marks_room)); words_checked = subst (λ (k : struct.Code). WordsChecked (code_of k) p (length ks) ss ms ks) (sym e) as_many }
+    record {
+      made = (subst Made (sym e) (made a.m a.t a.n is), omega (arith, h.marks_room));
+      words_checked = subst (λ (k : struct.Code). WordsChecked (code_of k) p (length ks) ss ms ks) (sym e) as_many;
+    }
 
 pub returns-in-Refused : goal.returns-in-Refused
 unfolding words_refusal words_of words_answer messages_buffer marks_buffer
@@ -43,7 +46,11 @@ returns-in-Refused c =
     let refused = named_refused c.in-Refused.r (words_refusal w a.depth a.words a.symbols.now ms ks) _
     (sym (ap named_of c.in-Refused.is) ∙ c.of_words.ensures) in
     let r = answers_to w a.depth a.words a.symbols.now in
-    record { answer = answered_some _ _ (totals_of r) refused; messages = buffer_some _ _ ms (messages_of w r) refused; marks = buffer_some _ _ ks (marks_of r) refused }
+    record {
+      answer = answered_some _ _ (totals_of r) refused;
+      messages = buffer_some _ _ ms (messages_of w r) refused;
+      marks = buffer_some _ _ ks (marks_of r) refused;
+    }
 
 pub returns-in-Code : goal.returns-in-Code
 unfolding words_refusal words_of words_answer messages_buffer marks_buffer
@@ -63,4 +70,8 @@ returns-in-Code c =
     ap (λ (k : struct.Code). f (code_of k) (answers_to (code_of k) p (length ks) ss)) e ∙ ap (λ (n : ℕ). f w (answers_to w p n ss)) many in
     let totals = ap (λ (k : struct.Code). totals_of (answers_to (code_of k) p (length ks) ss)) e ∙ ap (λ (n : ℕ). totals_of (answers_to w p n ss)) many in
     let d = c.decode.ensures in
-    record { answer = ap inr (d.answer ∙ totals) ∙ answered_none _ (totals_of all) ok; messages = d.messages ∙ same messages_of ∙ buffer_none _ ms (messages_of w all) ok; marks = d.marks ∙ same (λ k as'. marks_of as') ∙ buffer_none _ ks (marks_of all) ok }
+    record {
+      answer = ap inr (d.answer ∙ totals) ∙ answered_none _ (totals_of all) ok;
+      messages = d.messages ∙ same messages_of ∙ buffer_none _ ms (messages_of w all) ok;
+      marks = d.marks ∙ same (λ k as'. marks_of as') ∙ buffer_none _ ks (marks_of all) ok;
+    }

@@ -45,7 +45,10 @@ found-requires c =
 pub returns-in-Refused : goal.returns-in-Refused
 returns-in-Refused c =
     let d = c.decode_hard-answer in
-    record { answer = c.refusal.ensures ∙ refused-number d.result _ c.in-Refused.is ∙ ap hard_packed d.ensures.answer; codeword = d.ensures.codeword }
+    record {
+      answer = c.refusal.ensures ∙ refused-number d.result _ c.in-Refused.is ∙ ap hard_packed d.ensures.answer;
+      codeword = d.ensures.codeword;
+    }
 
 pub returns-in-Lost : goal.returns-in-Lost
 returns-in-Lost c =
@@ -55,4 +58,7 @@ returns-in-Lost c =
 pub returns-in-Found : goal.returns-in-Found
 returns-in-Found c =
     let d = c.decode_hard-answer in
-    record { answer = c.found.ensures ∙ found_number d.result c.in-Found.is ∙ ap hard_packed d.ensures.answer; codeword = d.ensures.codeword }
+    record {
+      answer = c.found.ensures ∙ found_number d.result c.in-Found.is ∙ ap hard_packed d.ensures.answer;
+      codeword = d.ensures.codeword;
+    }

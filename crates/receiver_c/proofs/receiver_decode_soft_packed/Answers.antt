@@ -33,7 +33,10 @@ answer-requires-in-Fair c =
     let a = c.args in
     let room = told_room (code a.m a.t a.n) a.depth a.symbols.now a.codeword.now _ _ _ _ c.in-Fair.is
     c.decode_soft.ensures.answer refl in
-    record { mark_bound = (omega arith, room.flips, omega (arith, room.tries, room.place), omega (arith, room.place, room.tries), room.distance); margin_bound = mag_again c.in-Fair.margin f room.margin }
+    record {
+      mark_bound = (omega arith, room.flips, omega (arith, room.tries, room.place), omega (arith, room.place, room.tries), room.distance);
+      margin_bound = mag_again c.in-Fair.margin f room.margin;
+    }
 
 pub answer-requires-in-Sure : goal.answer-requires-in-Sure
 unfolding soft_of lost_answer
@@ -42,7 +45,10 @@ answer-requires-in-Sure c =
     let a = c.args in
     let room = told_room (code a.m a.t a.n) a.depth a.symbols.now a.codeword.now _ _ _ _ c.in-Sure.is
     c.decode_soft.ensures.answer refl in
-    record { mark_bound = (omega arith, room.flips, omega (arith, room.tries, room.place), omega (arith, room.place, room.tries), room.distance); margin_bound = mag_again c.in-Sure.margin f room.margin }
+    record {
+      mark_bound = (omega arith, room.flips, omega (arith, room.tries, room.place), omega (arith, room.place, room.tries), room.distance);
+      margin_bound = mag_again c.in-Sure.margin f room.margin;
+    }
 
 pub returns-in-Refused : goal.returns-in-Refused
 unfolding soft_of soft_packed

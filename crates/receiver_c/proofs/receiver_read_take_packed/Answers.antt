@@ -28,7 +28,12 @@ returns-in-Refused c =
     let read = c.read_take.ensures in
     let e = sym (ap words_of c.in-Refused.is) ∙ read.answer in
     let small = take_number a.take.now a.messages.now a.marks.now _ e in
-    record { answer = c.refusal.ensures ∙ ap take_packed e; messages = read.messages; marks = read.marks; promise = refusal_promise _ _ _ _ _ small c.refusal.ensures }
+    record {
+      answer = c.refusal.ensures ∙ ap take_packed e;
+      messages = read.messages;
+      marks = read.marks;
+      promise = refusal_promise _ _ _ _ _ small c.refusal.ensures;
+    }
 
 pub returns-in-Decoded : goal.returns-in-Decoded
 unfolding words_of take_packed
@@ -37,4 +42,9 @@ returns-in-Decoded c =
     let read = c.read_take.ensures in
     let is = ap words_of c.in-Decoded.is in
     let promise = read.promise _ is in
-    record { answer = c.totals.ensures ∙ ap take_packed (sym is ∙ read.answer); messages = read.messages; marks = read.marks; promise = totals_promise _ _ _ _ _ promise (few_words bs (omega (arith, c.type_inv.take 0)) (omega (arith, c.type_inv.take 1))) c.totals.ensures }
+    record {
+      answer = c.totals.ensures ∙ ap take_packed (sym is ∙ read.answer);
+      messages = read.messages;
+      marks = read.marks;
+      promise = totals_promise _ _ _ _ _ promise (few_words bs (omega (arith, c.type_inv.take 0)) (omega (arith, c.type_inv.take 1))) c.totals.ensures;
+    }

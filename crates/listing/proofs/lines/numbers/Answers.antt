@@ -61,4 +61,7 @@ returns c =
     let h = c.character-c.ensures in
     let t = c.number_and.ensures in
     let a = c.args in
-    record { put = same_text (append_assoc (decimal a.distance) (32 ∷ []) _) (then n.put (then m (then h t.put))); upper_bound = omega (arith, n.upper_bound, m.ends, h.ends, t.upper_bound, signed_long c.args.margin c.ranges.margin) }
+    record {
+      put = same_text (append_assoc (decimal a.distance) (32 ∷ []) _) (then n.put (then m (then h t.put)));
+      upper_bound = omega (arith, n.upper_bound, m.ends, h.ends, t.upper_bound, signed_long c.args.margin c.ranges.margin);
+    }

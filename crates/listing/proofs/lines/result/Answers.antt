@@ -13,14 +13,20 @@ use Rattle.listing.proofs.lines.result.Goals as goal
 
 pub returns-in-Refused : goal.returns-in-Refused
 unfolding answer_text soft_of
-returns-in-Refused c = record { put = same_text (by_case c.args.message.now c.in-Refused.is) (put_none (omega arith) refl); upper_bound = omega arith }
+returns-in-Refused c = record {
+  put = same_text (by_case c.args.message.now c.in-Refused.is) (put_none (omega arith) refl);
+  upper_bound = omega arith;
+}
 
 pub returns-in-Lost : goal.returns-in-Lost
 unfolding answer_text soft_of
 returns-in-Lost c =
     let bits = c.args.message.now in
     let h = c.lost.ensures in
-    record { put = same_text (lost_bits c.in-Lost.tries bits ∙ by_case bits c.in-Lost.is) h.put; upper_bound = omega (arith, h.upper_bound) }
+    record {
+      put = same_text (lost_bits c.in-Lost.tries bits ∙ by_case bits c.in-Lost.is) h.put;
+      upper_bound = omega (arith, h.upper_bound);
+    }
 
 pub returns-in-Fair : goal.returns-in-Fair
 unfolding soft_of mark_name message_text ascii line

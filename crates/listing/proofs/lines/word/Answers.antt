@@ -11,4 +11,7 @@ returns c =
     let a = c.args in
     let n = c.number_and-a.ensures in
     let h = c.result.ensures in
-    record { put = same_text (append_assoc (decimal a.index) (32 ∷ []) (soft_text a.answer a.message.now)) (then n.put h.put); upper_bound = omega (arith, n.upper_bound, h.upper_bound) }
+    record {
+      put = same_text (append_assoc (decimal a.index) (32 ∷ []) (soft_text a.answer a.message.now)) (then n.put h.put);
+      upper_bound = omega (arith, n.upper_bound, h.upper_bound);
+    }

@@ -44,7 +44,10 @@ word-next-requires c =
     let word = d.new.codeword in
     let start = c.parity-start.result in
     let lent = lent_at a.take.now (header_of a.h) c.requires.listable.0 a.w c.requires.listable.1 c.requires.listable.2 d.auto.codeword d.ensures.codeword in
-    record { bits = subst Bits (sym (rest_is word start)) (below_drop 2 start word lent.bits); message_in_bounds = omega (arith, ap length (rest_is word start), length-drop start word, lent.long, c.parity-start.ensures, c.requires.h_in_bounds) }
+    record {
+      bits = subst Bits (sym (rest_is word start)) (below_drop 2 start word lent.bits);
+      message_in_bounds = omega (arith, ap length (rest_is word start), length-drop start word, lent.long, c.parity-start.ensures, c.requires.h_in_bounds);
+    }
 
 pub returns : goal.returns
 unfolding line_at

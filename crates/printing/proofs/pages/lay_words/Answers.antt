@@ -15,7 +15,10 @@ lay_word-k-requires c =
     let l = c.loop-w in
     let t = c.loop-w-test.true in
     let ok = c.requires.0 in
-    record { printable = (ok, omega (arith, t), l.invariant.1, l.invariant.3.few); w_in_bounds = entry_room _ (header_of c.args.h) ok l.w l.k.at _ (omega (arith, t)) l.invariant.3.text.ends (l.invariant.2 ∙ c.requires.2) }
+    record {
+      printable = (ok, omega (arith, t), l.invariant.1, l.invariant.3.few);
+      w_in_bounds = entry_room _ (header_of c.args.h) ok l.w l.k.at _ (omega (arith, t)) l.invariant.3.text.ends (l.invariant.2 ∙ c.requires.2);
+    }
 
 pub loop-w-preserved : goal.loop-w-preserved
 loop-w-preserved c =

@@ -20,7 +20,10 @@ overflow_cast-wide-then-wide-lt0 c = (minus c.args.x c.ranges.x c.if-wide-lt0.tr
 pub returns-then-wide-lt0 : goal.returns-then-wide-lt0
 returns-then-wide-lt0 c =
     let f = c.field.ensures in
-    record { put = same_text (minus_field c.args.x _ (minus c.args.x c.ranges.x c.if-wide-lt0.true).text c.requires.1) f.put; value = f.value }
+    record {
+      put = same_text (minus_field c.args.x _ (minus c.args.x c.ranges.x c.if-wide-lt0.true).text c.requires.1) f.put;
+      value = f.value;
+    }
 
 pub overflow_cast-wide-2 : goal.overflow_cast-wide-2
 overflow_cast-wide-2 c = (plus c.args.x c.ranges.x c.if-wide-lt0.false).asks
@@ -28,4 +31,7 @@ overflow_cast-wide-2 c = (plus c.args.x c.ranges.x c.if-wide-lt0.false).asks
 pub returns : goal.returns
 returns c =
     let f = c.field-2.ensures in
-    record { put = same_text (plus_field c.args.x _ (plus c.args.x c.ranges.x c.if-wide-lt0.false).text c.requires.1) f.put; value = f.value }
+    record {
+      put = same_text (plus_field c.args.x _ (plus c.args.x c.ranges.x c.if-wide-lt0.false).text c.requires.1) f.put;
+      value = f.value;
+    }

@@ -15,4 +15,7 @@ returns c =
     let margin = c.margin-e.ensures in
     let tries = c.field.ensures in
     let line = row_text a.index a.mark.now a.distance _ a.gap a.tries c.requires.0 (read_again a.gap c.ranges.gap) in
-    record { put = same_text line (then index.put (then mark (then space (then distance.put (then margin.put tries.put))))); value = omega (arith, index.value, mark.ends, c.requires.0.mark, space.ends, distance.value, margin.value, tries.value) }
+    record {
+      put = same_text line (then index.put (then mark (then space (then distance.put (then margin.put tries.put)))));
+      value = omega (arith, index.value, mark.ends, c.requires.0.mark, space.ends, distance.value, margin.value, tries.value);
+    }

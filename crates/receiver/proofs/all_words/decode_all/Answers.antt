@@ -99,7 +99,8 @@ overflow_add-at c =
     let long : ℕ = message_length (code) in
     let words : ℕ = length c.args.marks.now in
     let xs : List ℕ = c.args.symbols.now in
-    let inside : (w : ℕ) → w < (words) → (w * (code).n + (code).n ≤ length (xs)) × (length (xs) ≤ 67042305) × (w * (long) + (long) ≤ length c.args.messages.now) × (length c.args.messages.now ≤ 67042305) = λ w h. let ok = c.requires.words_checked in
+    let inside : (w : ℕ) → w < (words) → (w * (code).n + (code).n ≤ length (xs)) × (length (xs) ≤ 67042305) × (w * (long) + (long) ≤ length c.args.messages.now) × (length c.args.messages.now ≤ 67042305) =
+    λ w h. let ok = c.requires.words_checked in
     let W = c.requires.filled.1 in
     let n = word_short (code) c.requires.filled.0.fielded.made.lawful in
     let k : (long) ≤ 1023 = omega (arith, n) in (
@@ -109,7 +110,8 @@ overflow_add-at c =
       omega (arith, ok.messages_room, words_small (words) (long) W k),
     ) in
     let word-here : c.loop-w.w < length c.args.marks.now = subst (λ (n : ℕ). c.loop-w.w < n) c.loop-w.invariant.4 c.loop-w-test.true in
-    let symbols-end : c.loop-w.at + c.length-n.result ≤ length c.args.symbols.now = ends _ _ _ _ _ c.loop-w.invariant.1 c.length-n.ensures (inside c.loop-w.w (word-here)).0 in
+    let symbols-end : c.loop-w.at + c.length-n.result ≤ length c.args.symbols.now =
+    ends _ _ _ _ _ c.loop-w.invariant.1 c.length-n.ensures (inside c.loop-w.w (word-here)).0 in
     let symbols-fit : Fits w64 (c.loop-w.at + c.length-n.result) = end_fits _ _ _ (symbols-end) (inside c.loop-w.w (word-here)).1 in
     symbols-fit
 
@@ -125,7 +127,8 @@ slice_bounds-decode_word-end c =
     let long : ℕ = message_length (code) in
     let words : ℕ = length c.args.marks.now in
     let xs : List ℕ = c.args.symbols.now in
-    let inside : (w : ℕ) → w < (words) → (w * (code).n + (code).n ≤ length (xs)) × (length (xs) ≤ 67042305) × (w * (long) + (long) ≤ length c.args.messages.now) × (length c.args.messages.now ≤ 67042305) = λ w h. let ok = c.requires.words_checked in
+    let inside : (w : ℕ) → w < (words) → (w * (code).n + (code).n ≤ length (xs)) × (length (xs) ≤ 67042305) × (w * (long) + (long) ≤ length c.args.messages.now) × (length c.args.messages.now ≤ 67042305) =
+    λ w h. let ok = c.requires.words_checked in
     let W = c.requires.filled.1 in
     let n = word_short (code) c.requires.filled.0.fielded.made.lawful in
     let k : (long) ≤ 1023 = omega (arith, n) in (
@@ -135,7 +138,8 @@ slice_bounds-decode_word-end c =
       omega (arith, ok.messages_room, words_small (words) (long) W k),
     ) in
     let word-here : c.loop-w.w < length c.args.marks.now = subst (λ (n : ℕ). c.loop-w.w < n) c.loop-w.invariant.4 c.loop-w-test.true in
-    let symbols-end : c.loop-w.at + c.length-n.result ≤ length c.args.symbols.now = ends _ _ _ _ _ c.loop-w.invariant.1 c.length-n.ensures (inside c.loop-w.w (word-here)).0 in
+    let symbols-end : c.loop-w.at + c.length-n.result ≤ length c.args.symbols.now =
+    ends _ _ _ _ _ c.loop-w.invariant.1 c.length-n.ensures (inside c.loop-w.w (word-here)).0 in
     symbols-end
 
 pub overflow_add-to : goal.overflow_add-to
@@ -144,7 +148,8 @@ overflow_add-to c =
     let long : ℕ = message_length (code) in
     let words : ℕ = length c.args.marks.now in
     let xs : List ℕ = c.args.symbols.now in
-    let inside : (w : ℕ) → w < (words) → (w * (code).n + (code).n ≤ length (xs)) × (length (xs) ≤ 67042305) × (w * (long) + (long) ≤ length c.args.messages.now) × (length c.args.messages.now ≤ 67042305) = λ w h. let ok = c.requires.words_checked in
+    let inside : (w : ℕ) → w < (words) → (w * (code).n + (code).n ≤ length (xs)) × (length (xs) ≤ 67042305) × (w * (long) + (long) ≤ length c.args.messages.now) × (length c.args.messages.now ≤ 67042305) =
+    λ w h. let ok = c.requires.words_checked in
     let W = c.requires.filled.1 in
     let n = word_short (code) c.requires.filled.0.fielded.made.lawful in
     let k : (long) ≤ 1023 = omega (arith, n) in (
@@ -173,7 +178,8 @@ slice_bounds-decode_word-end-in-loop-w c =
     let is-long : (k : ℕ) → k ≡ c.args.c.k → k ≡ (long) = λ k e. omega (arith, e, c.requires.filled.0.fielded.made.is_n) in
     let words : ℕ = length c.args.marks.now in
     let xs : List ℕ = c.args.symbols.now in
-    let inside : (w : ℕ) → w < (words) → (w * (code).n + (code).n ≤ length (xs)) × (length (xs) ≤ 67042305) × (w * (long) + (long) ≤ length c.args.messages.now) × (length c.args.messages.now ≤ 67042305) = λ w h. let ok = c.requires.words_checked in
+    let inside : (w : ℕ) → w < (words) → (w * (code).n + (code).n ≤ length (xs)) × (length (xs) ≤ 67042305) × (w * (long) + (long) ≤ length c.args.messages.now) × (length c.args.messages.now ≤ 67042305) =
+    λ w h. let ok = c.requires.words_checked in
     let W = c.requires.filled.1 in
     let n = word_short (code) c.requires.filled.0.fielded.made.lawful in
     let k : (long) ≤ 1023 = omega (arith, n) in (
@@ -193,7 +199,8 @@ decode_word-o-requires c =
     let words : ℕ = length c.args.marks.now in
     let xs : List ℕ = c.args.symbols.now in
     let long : ℕ = message_length (code) in
-    let inside : (w : ℕ) → w < (words) → (w * (code).n + (code).n ≤ length (xs)) × (length (xs) ≤ 67042305) × (w * (long) + (long) ≤ length c.args.messages.now) × (length c.args.messages.now ≤ 67042305) = λ w h. let ok = c.requires.words_checked in
+    let inside : (w : ℕ) → w < (words) → (w * (code).n + (code).n ≤ length (xs)) × (length (xs) ≤ 67042305) × (w * (long) + (long) ≤ length c.args.messages.now) × (length c.args.messages.now ≤ 67042305) =
+    λ w h. let ok = c.requires.words_checked in
     let W = c.requires.filled.1 in
     let n = word_short (code) c.requires.filled.0.fielded.made.lawful in
     let k : (long) ≤ 1023 = omega (arith, n) in (
@@ -202,8 +209,10 @@ decode_word-o-requires c =
       omega (arith, ok.messages_room, room w (words) (long) h),
       omega (arith, ok.messages_room, words_small (words) (long) W k),
     ) in
-    let word_long : (w at n : ℕ) → w < (words) → n ≡ (code).n → at ≡ w * (code).n → length (take (at + n - at) (drop at (xs))) ≡ (code).n = λ w at n h e f. omega (arith, e, f, ((inside) w h).0, length-take (at + n - at) (drop at (xs)), length-drop at (xs)) in
-    let word_symbols_lem : (at n : ℕ) → Symbols (take n (drop at (xs))) = λ at n. below_take 32 n (drop at (xs)) (below_drop 32 at (xs) c.requires.words_checked.are_symbols) in
+    let word_long : (w at n : ℕ) → w < (words) → n ≡ (code).n → at ≡ w * (code).n → length (take (at + n - at) (drop at (xs))) ≡ (code).n =
+    λ w at n h e f. omega (arith, e, f, ((inside) w h).0, length-take (at + n - at) (drop at (xs)), length-drop at (xs)) in
+    let word_symbols_lem : (at n : ℕ) → Symbols (take n (drop at (xs))) =
+    λ at n. below_take 32 n (drop at (xs)) (below_drop 32 at (xs) c.requires.words_checked.are_symbols) in
     let word-here : c.loop-w.w < length c.args.marks.now = subst (λ (n : ℕ). c.loop-w.w < n) c.loop-w.invariant.4 c.loop-w-test.true in
     let is-long : (k : ℕ) → k ≡ c.args.c.k → k ≡ (long) = λ k e. omega (arith, e, c.requires.filled.0.fielded.made.is_n) in
     let messages-end : c.loop-w.to + c.message_length-k.result ≤ length c.args.messages.now = let k = is-long _ c.message_length-k.ensures in
@@ -228,7 +237,8 @@ overflow_add-at-in-loop-w c =
     let long : ℕ = message_length (code) in
     let words : ℕ = length c.args.marks.now in
     let xs : List ℕ = c.args.symbols.now in
-    let inside : (w : ℕ) → w < (words) → (w * (code).n + (code).n ≤ length (xs)) × (length (xs) ≤ 67042305) × (w * (long) + (long) ≤ length c.args.messages.now) × (length c.args.messages.now ≤ 67042305) = λ w h. let ok = c.requires.words_checked in
+    let inside : (w : ℕ) → w < (words) → (w * (code).n + (code).n ≤ length (xs)) × (length (xs) ≤ 67042305) × (w * (long) + (long) ≤ length c.args.messages.now) × (length c.args.messages.now ≤ 67042305) =
+    λ w h. let ok = c.requires.words_checked in
     let W = c.requires.filled.1 in
     let n = word_short (code) c.requires.filled.0.fielded.made.lawful in
     let k : (long) ≤ 1023 = omega (arith, n) in (
@@ -238,7 +248,8 @@ overflow_add-at-in-loop-w c =
       omega (arith, ok.messages_room, words_small (words) (long) W k),
     ) in
     let word-here : c.loop-w.w < length c.args.marks.now = subst (λ (n : ℕ). c.loop-w.w < n) c.loop-w.invariant.4 c.loop-w-test.true in
-    let symbols-end : c.loop-w.at + c.length-n.result ≤ length c.args.symbols.now = ends _ _ _ _ _ c.loop-w.invariant.1 c.length-n.ensures (inside c.loop-w.w (word-here)).0 in
+    let symbols-end : c.loop-w.at + c.length-n.result ≤ length c.args.symbols.now =
+    ends _ _ _ _ _ c.loop-w.invariant.1 c.length-n.ensures (inside c.loop-w.w (word-here)).0 in
     let symbols-fit : Fits w64 (c.loop-w.at + c.length-n.result) = end_fits _ _ _ (symbols-end) (inside c.loop-w.w (word-here)).1 in
     symbols-fit
 
@@ -248,7 +259,8 @@ overflow_add-to-in-loop-w c =
     let long : ℕ = message_length (code) in
     let words : ℕ = length c.args.marks.now in
     let xs : List ℕ = c.args.symbols.now in
-    let inside : (w : ℕ) → w < (words) → (w * (code).n + (code).n ≤ length (xs)) × (length (xs) ≤ 67042305) × (w * (long) + (long) ≤ length c.args.messages.now) × (length c.args.messages.now ≤ 67042305) = λ w h. let ok = c.requires.words_checked in
+    let inside : (w : ℕ) → w < (words) → (w * (code).n + (code).n ≤ length (xs)) × (length (xs) ≤ 67042305) × (w * (long) + (long) ≤ length c.args.messages.now) × (length c.args.messages.now ≤ 67042305) =
+    λ w h. let ok = c.requires.words_checked in
     let W = c.requires.filled.1 in
     let n = word_short (code) c.requires.filled.0.fielded.made.lawful in
     let k : (long) ≤ 1023 = omega (arith, n) in (
@@ -281,7 +293,8 @@ loop-w-preserved c =
     let xs : List ℕ = c.args.symbols.now in
     let is-long : (k : ℕ) → k ≡ c.args.c.k → k ≡ (long) = λ k e. omega (arith, e, c.requires.filled.0.fielded.made.is_n) in
     let words : ℕ = length c.args.marks.now in
-    let inside : (w : ℕ) → w < (words) → (w * (code).n + (code).n ≤ length (xs)) × (length (xs) ≤ 67042305) × (w * (long) + (long) ≤ length c.args.messages.now) × (length c.args.messages.now ≤ 67042305) = λ w h. let ok = c.requires.words_checked in
+    let inside : (w : ℕ) → w < (words) → (w * (code).n + (code).n ≤ length (xs)) × (length (xs) ≤ 67042305) × (w * (long) + (long) ≤ length c.args.messages.now) × (length c.args.messages.now ≤ 67042305) =
+    λ w h. let ok = c.requires.words_checked in
     let W = c.requires.filled.1 in
     let n = word_short (code) c.requires.filled.0.fielded.made.lawful in
     let k : (long) ≤ 1023 = omega (arith, n) in (
@@ -290,8 +303,10 @@ loop-w-preserved c =
       omega (arith, ok.messages_room, room w (words) (long) h),
       omega (arith, ok.messages_room, words_small (words) (long) W k),
     ) in
-    let word_long : (w at n : ℕ) → w < (words) → n ≡ (code).n → at ≡ w * (code).n → length (take (at + n - at) (drop at (xs))) ≡ (code).n = λ w at n h e f. omega (arith, e, f, ((inside) w h).0, length-take (at + n - at) (drop at (xs)), length-drop at (xs)) in
-    let word_symbols_lem : (at n : ℕ) → Symbols (take n (drop at (xs))) = λ at n. below_take 32 n (drop at (xs)) (below_drop 32 at (xs) c.requires.words_checked.are_symbols) in
+    let word_long : (w at n : ℕ) → w < (words) → n ≡ (code).n → at ≡ w * (code).n → length (take (at + n - at) (drop at (xs))) ≡ (code).n =
+    λ w at n h e f. omega (arith, e, f, ((inside) w h).0, length-take (at + n - at) (drop at (xs)), length-drop at (xs)) in
+    let word_symbols_lem : (at n : ℕ) → Symbols (take n (drop at (xs))) =
+    λ at n. below_take 32 n (drop at (xs)) (below_drop 32 at (xs) c.requires.words_checked.are_symbols) in
     let word-here : c.loop-w.w < length c.args.marks.now = subst (λ (n : ℕ). c.loop-w.w < n) c.loop-w.invariant.4 c.loop-w-test.true in
     let a = c.args in
     let l = c.loop-w in

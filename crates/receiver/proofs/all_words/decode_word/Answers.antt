@@ -36,7 +36,10 @@ returns-then-found c =
     let k = c.message_length in
     let found = outcome_found a.p a.s.now d.result stage e c.if-found.true in
     let from : n.result - k.result ≡ parity_length b = parity-long _ _ _ _ _ n.ensures k.ensures c.requires.0.fielded.made.is_n in
-    record { answer = outcome_told a.p a.s.now d.result stage e; message = d.ensures.out ∙ word_written (n.result - k.result) stage _ found ∙ ap (λ (x : ℕ). drop x stage.word) from ∙ sym (message_found b stage found) }
+    record {
+      answer = outcome_told a.p a.s.now d.result stage e;
+      message = d.ensures.out ∙ word_written (n.result - k.result) stage _ found ∙ ap (λ (x : ℕ). drop x stage.word) from ∙ sym (message_found b stage found);
+    }
 
 pub returns : goal.returns
 returns c =
@@ -48,4 +51,7 @@ returns c =
     let lost = outcome_lost a.p a.s.now d.result stage e c.if-found.false in
     let long : length d.new.out ≡ message_length b =
     omega (arith, c.message-1.given, c.requires.4, c.requires.0.fielded.made.is_n) in
-    record { answer = outcome_told a.p a.s.now d.result stage e; message = c.clear.ensures ∙ ap (λ (k : ℕ). replicate k 0) long ∙ sym (message_lost b stage lost) }
+    record {
+      answer = outcome_told a.p a.s.now d.result stage e;
+      message = c.clear.ensures ∙ ap (λ (k : ℕ). replicate k 0) long ∙ sym (message_lost b stage lost);
+    }

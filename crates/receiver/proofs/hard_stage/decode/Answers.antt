@@ -16,4 +16,7 @@ decode_in-requires-then-c-le8 c =
     record { made = (c.requires.0, omega arith, zeros 784); bits_len = (c.requires.1, c.requires.2, c.requires.3) }
 
 pub decode_in-requires-2 : goal.decode_in-requires-2
-decode_in-requires-2 c = record { made = (c.requires.0, omega (arith, c.requires.0.size_most), zeros 3088); bits_len = (c.requires.1, c.requires.2, c.requires.3) }
+decode_in-requires-2 c = record {
+  made = (c.requires.0, omega (arith, c.requires.0.size_most), zeros 3088);
+  bits_len = (c.requires.1, c.requires.2, c.requires.3);
+}

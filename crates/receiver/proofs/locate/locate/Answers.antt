@@ -36,7 +36,8 @@ powers_of-requires c = (c.requires.0.fielded, c.log_of-l1.ensures.1)
 
 pub returns-then-rest-eq0 : goal.returns-then-rest-eq0
 returns-then-rest-eq0 c =
-    let left : bit_xor c.args.s c.powers_of.result ≡ bit_xor c.args.s (powers_in c.args.c.m c.args.tables.now c.log_of-l1.result) = ap (bit_xor c.args.s) c.powers_of.ensures in
+    let left : bit_xor c.args.s c.powers_of.result ≡ bit_xor c.args.s (powers_in c.args.c.m c.args.tables.now c.log_of-l1.result) =
+    ap (bit_xor c.args.s) c.powers_of.ensures in
     let a = c.args in
     let e = c.one.ensures in
     let q =
@@ -46,7 +47,8 @@ returns-then-rest-eq0 c =
 
 pub returns-then-t-eq1 : goal.returns-then-t-eq1
 returns-then-t-eq1 c =
-    let left : bit_xor c.args.s c.powers_of.result ≡ bit_xor c.args.s (powers_in c.args.c.m c.args.tables.now c.log_of-l1.result) = ap (bit_xor c.args.s) c.powers_of.ensures in
+    let left : bit_xor c.args.s c.powers_of.result ≡ bit_xor c.args.s (powers_in c.args.c.m c.args.tables.now c.log_of-l1.result) =
+    ap (bit_xor c.args.s) c.powers_of.ensures in
     let a = c.args in
     let e = c.lost.ensures in
     let q =
@@ -59,7 +61,8 @@ overflow_cast-d2 c = low_fits _
 
 pub returns-then-s1-eq0 : goal.returns-then-s1-eq0
 returns-then-s1-eq0 c =
-    let left : bit_xor c.args.s c.powers_of.result ≡ bit_xor c.args.s (powers_in c.args.c.m c.args.tables.now c.log_of-l1.result) = ap (bit_xor c.args.s) c.powers_of.ensures in
+    let left : bit_xor c.args.s c.powers_of.result ≡ bit_xor c.args.s (powers_in c.args.c.m c.args.tables.now c.log_of-l1.result) =
+    ap (bit_xor c.args.s) c.powers_of.ensures in
     let a = c.args in
     let e = c.lost-then-s1-eq0.ensures in
     let q =
@@ -69,8 +72,10 @@ returns-then-s1-eq0 c =
 
 pub pair-requires : goal.pair-requires
 pair-requires c =
-    let left : bit_xor c.args.s c.powers_of.result ≡ bit_xor c.args.s (powers_in c.args.c.m c.args.tables.now c.log_of-l1.result) = ap (bit_xor c.args.s) c.powers_of.ensures in
-    let parts-lt : (bit_xor c.args.s c.powers_of.result / 1024 % 1024 < 2 ^ c.args.c.m) × (bit_xor c.args.s c.powers_of.result / 1048576 < 2 ^ c.args.c.m) = let a = c.args in
+    let left : bit_xor c.args.s c.powers_of.result ≡ bit_xor c.args.s (powers_in c.args.c.m c.args.tables.now c.log_of-l1.result) =
+    ap (bit_xor c.args.s) c.powers_of.ensures in
+    let parts-lt : (bit_xor c.args.s c.powers_of.result / 1024 % 1024 < 2 ^ c.args.c.m) × (bit_xor c.args.s c.powers_of.result / 1048576 < 2 ^ c.args.c.m) =
+    let a = c.args in
     rest_lt a.c.m a.c.t a.tables.now c.requires.0.tables a.s _ _ c.log_of-l1.ensures.0 left c.requires.1 in
     let a = c.args in
     let l = c.log_of-l1.ensures in
@@ -81,7 +86,8 @@ pair-requires c =
 
 pub returns-then-t-eq2 : goal.returns-then-t-eq2
 returns-then-t-eq2 c =
-    let left : bit_xor c.args.s c.powers_of.result ≡ bit_xor c.args.s (powers_in c.args.c.m c.args.tables.now c.log_of-l1.result) = ap (bit_xor c.args.s) c.powers_of.ensures in
+    let left : bit_xor c.args.s c.powers_of.result ≡ bit_xor c.args.s (powers_in c.args.c.m c.args.tables.now c.log_of-l1.result) =
+    ap (bit_xor c.args.s) c.powers_of.ensures in
     let a = c.args in
     let e = c.pair.ensures in
     let q =
@@ -91,7 +97,8 @@ returns-then-t-eq2 c =
 
 pub returns-then-d2-eq0 : goal.returns-then-d2-eq0
 returns-then-d2-eq0 c =
-    let left : bit_xor c.args.s c.powers_of.result ≡ bit_xor c.args.s (powers_in c.args.c.m c.args.tables.now c.log_of-l1.result) = ap (bit_xor c.args.s) c.powers_of.ensures in
+    let left : bit_xor c.args.s c.powers_of.result ≡ bit_xor c.args.s (powers_in c.args.c.m c.args.tables.now c.log_of-l1.result) =
+    ap (bit_xor c.args.s) c.powers_of.ensures in
     let a = c.args in
     let e = c.lost-then-d2-eq0.ensures in
     let t = three _ c.if-t-eq1.false c.if-t-eq2.false c.requires.0.tables.t_least c.requires.0.tables.t_most in
@@ -102,21 +109,26 @@ returns-then-d2-eq0 c =
 
 pub overflow_cast-e : goal.overflow_cast-e
 overflow_cast-e c =
-    let left : bit_xor c.args.s c.powers_of.result ≡ bit_xor c.args.s (powers_in c.args.c.m c.args.tables.now c.log_of-l1.result) = ap (bit_xor c.args.s) c.powers_of.ensures in
-    let parts-lt : (bit_xor c.args.s c.powers_of.result / 1024 % 1024 < 2 ^ c.args.c.m) × (bit_xor c.args.s c.powers_of.result / 1048576 < 2 ^ c.args.c.m) = let a = c.args in
+    let left : bit_xor c.args.s c.powers_of.result ≡ bit_xor c.args.s (powers_in c.args.c.m c.args.tables.now c.log_of-l1.result) =
+    ap (bit_xor c.args.s) c.powers_of.ensures in
+    let parts-lt : (bit_xor c.args.s c.powers_of.result / 1024 % 1024 < 2 ^ c.args.c.m) × (bit_xor c.args.s c.powers_of.result / 1048576 < 2 ^ c.args.c.m) =
+    let a = c.args in
     rest_lt a.c.m a.c.t a.tables.now c.requires.0.tables a.s _ _ c.log_of-l1.ensures.0 left c.requires.1 in
     element-fits _ _ c.requires.0.tables.size_most (parts-lt).1
 
 pub by_cubes-requires : goal.by_cubes-requires
 by_cubes-requires c =
-    let left : bit_xor c.args.s c.powers_of.result ≡ bit_xor c.args.s (powers_in c.args.c.m c.args.tables.now c.log_of-l1.result) = ap (bit_xor c.args.s) c.powers_of.ensures in
-    let parts-lt : (bit_xor c.args.s c.powers_of.result / 1024 % 1024 < 2 ^ c.args.c.m) × (bit_xor c.args.s c.powers_of.result / 1048576 < 2 ^ c.args.c.m) = let a = c.args in
+    let left : bit_xor c.args.s c.powers_of.result ≡ bit_xor c.args.s (powers_in c.args.c.m c.args.tables.now c.log_of-l1.result) =
+    ap (bit_xor c.args.s) c.powers_of.ensures in
+    let parts-lt : (bit_xor c.args.s c.powers_of.result / 1024 % 1024 < 2 ^ c.args.c.m) × (bit_xor c.args.s c.powers_of.result / 1048576 < 2 ^ c.args.c.m) =
+    let a = c.args in
     rest_lt a.c.m a.c.t a.tables.now c.requires.0.tables a.s _ _ c.log_of-l1.ensures.0 left c.requires.1 in
     (c.requires.0, c.requires.1.first, (parts-lt).0, c.if-d2-eq0.false)
 
 pub returns-then-e-eq0 : goal.returns-then-e-eq0
 returns-then-e-eq0 c =
-    let left : bit_xor c.args.s c.powers_of.result ≡ bit_xor c.args.s (powers_in c.args.c.m c.args.tables.now c.log_of-l1.result) = ap (bit_xor c.args.s) c.powers_of.ensures in
+    let left : bit_xor c.args.s c.powers_of.result ≡ bit_xor c.args.s (powers_in c.args.c.m c.args.tables.now c.log_of-l1.result) =
+    ap (bit_xor c.args.s) c.powers_of.ensures in
     let a = c.args in
     let e = c.by_cubes.ensures in
     let t = three _ c.if-t-eq1.false c.if-t-eq2.false c.requires.0.tables.t_least
@@ -128,15 +140,18 @@ returns-then-e-eq0 c =
 
 pub by_kappa-requires : goal.by_kappa-requires
 by_kappa-requires c =
-    let left : bit_xor c.args.s c.powers_of.result ≡ bit_xor c.args.s (powers_in c.args.c.m c.args.tables.now c.log_of-l1.result) = ap (bit_xor c.args.s) c.powers_of.ensures in
-    let parts-lt : (bit_xor c.args.s c.powers_of.result / 1024 % 1024 < 2 ^ c.args.c.m) × (bit_xor c.args.s c.powers_of.result / 1048576 < 2 ^ c.args.c.m) = let a = c.args in
+    let left : bit_xor c.args.s c.powers_of.result ≡ bit_xor c.args.s (powers_in c.args.c.m c.args.tables.now c.log_of-l1.result) =
+    ap (bit_xor c.args.s) c.powers_of.ensures in
+    let parts-lt : (bit_xor c.args.s c.powers_of.result / 1024 % 1024 < 2 ^ c.args.c.m) × (bit_xor c.args.s c.powers_of.result / 1048576 < 2 ^ c.args.c.m) =
+    let a = c.args in
     rest_lt a.c.m a.c.t a.tables.now c.requires.0.tables a.s _ _ c.log_of-l1.ensures.0 left c.requires.1 in
     let t = three _ c.if-t-eq1.false c.if-t-eq2.false c.requires.0.tables.t_least c.requires.0.tables.t_most in
     (c.requires.0, t, c.requires.1.first, (parts-lt).0, c.if-d2-eq0.false, (parts-lt).1, c.if-e-eq0.false)
 
 pub returns : goal.returns
 returns c =
-    let left : bit_xor c.args.s c.powers_of.result ≡ bit_xor c.args.s (powers_in c.args.c.m c.args.tables.now c.log_of-l1.result) = ap (bit_xor c.args.s) c.powers_of.ensures in
+    let left : bit_xor c.args.s c.powers_of.result ≡ bit_xor c.args.s (powers_in c.args.c.m c.args.tables.now c.log_of-l1.result) =
+    ap (bit_xor c.args.s) c.powers_of.ensures in
     let a = c.args in
     let e = c.by_kappa.ensures in
     let t = three _ c.if-t-eq1.false c.if-t-eq2.false c.requires.0.tables.t_least

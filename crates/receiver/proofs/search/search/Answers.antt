@@ -21,7 +21,8 @@ syndromes-base-requires c =
 
 pub try_on-o-requires : goal.try_on-o-requires
 try_on-o-requires c =
-    let summed : let a = c.args in c.syndromes-base.result ≡ syndromes_of (code_of a.c) (hard_bits a.s.now) = let a = c.args in c.syndromes-base.ensures ∙ ap (syndromes_of (code_of a.c)) (symbol_bits a.s.now) in
+    let summed : let a =
+    c.args in c.syndromes-base.result ≡ syndromes_of (code_of a.c) (hard_bits a.s.now) = let a = c.args in c.syndromes-base.ensures ∙ ap (syndromes_of (code_of a.c)) (symbol_bits a.s.now) in
     let a = c.args in
     let r = c.requires in
     let k = code_of a.c in
@@ -50,7 +51,8 @@ returns-then-p-eq0 c =
 
 pub search_on-requires : goal.search_on-requires
 search_on-requires c =
-    let summed : let a = c.args in c.syndromes-base.result ≡ syndromes_of (code_of a.c) (hard_bits a.s.now) = let a = c.args in c.syndromes-base.ensures ∙ ap (syndromes_of (code_of a.c)) (symbol_bits a.s.now) in
+    let summed : let a =
+    c.args in c.syndromes-base.result ≡ syndromes_of (code_of a.c) (hard_bits a.s.now) = let a = c.args in c.syndromes-base.ensures ∙ ap (syndromes_of (code_of a.c)) (symbol_bits a.s.now) in
     let e = c.try_on-o.ensures in
     record { ready = (c.requires, summed); tried = (e.0, c.if-o.false, e.1 c.if-o.false) }
 

@@ -87,7 +87,10 @@ double-requires c =
     let below = key_below a.s.now a.keys.at a.p ready l.b z.more in
     let small =
     tests_small a.s.now a.keys.at a.p ready (code_of a.c) r.filled.fielded.made.lawful l.b l.to l.tests l.invariant.1 l.invariant.3 in
-    record { fielded = (r.filled.fielded, subst (λ (n : ℕ). get_or a.keys.at l.b 0 % 1024 < n) r.long below); size_in_bounds = (z.room _ l.invariant.2, small) }
+    record {
+      fielded = (r.filled.fielded, subst (λ (n : ℕ). get_or a.keys.at l.b 0 % 1024 < n) r.long below);
+      size_in_bounds = (z.room _ l.invariant.2, small);
+    }
 
 pub overflow_mul-to : goal.overflow_mul-to
 overflow_mul-to c =
@@ -107,7 +110,8 @@ due-requires c =
 pub slice_bounds-tests-end : goal.slice_bounds-tests-end
 slice_bounds-tests-end c =
     let step-at : Step c.loop-b.b c.args.p c.loop-b.to = step _ _ _ c.loop-b-test.true c.requires.ready.0.deep.ready.depth c.loop-b.invariant.1 in
-    let more-at : (new : List ℕ) → Doubled (flipped_more (code_of c.args.c) (get_or c.args.keys.at c.loop-b.b 0)) c.loop-b.to c.loop-b.tests new → (length new ≡ 64) × Holds (packed_test (code_of c.args.c) c.args.p c.args.s.now) (2 ^ (c.loop-b.b + 1)) new = λ new d. let a = c.args in
+    let more-at : (new : List ℕ) → Doubled (flipped_more (code_of c.args.c) (get_or c.args.keys.at c.loop-b.b 0)) c.loop-b.to c.loop-b.tests new → (length new ≡ 64) × Holds (packed_test (code_of c.args.c) c.args.p c.args.s.now) (2 ^ (c.loop-b.b + 1)) new =
+    λ new d. let a = c.args in
     let r = c.requires.ready.0 in
     let l = c.loop-b in (
       d.long ∙ l.invariant.2,
@@ -119,7 +123,8 @@ slice_bounds-tests-end c =
 pub slice_bounds-try_on-end : goal.slice_bounds-try_on-end
 slice_bounds-try_on-end c =
     let step-at : Step c.loop-b.b c.args.p c.loop-b.to = step _ _ _ c.loop-b-test.true c.requires.ready.0.deep.ready.depth c.loop-b.invariant.1 in
-    let more-at : (new : List ℕ) → Doubled (flipped_more (code_of c.args.c) (get_or c.args.keys.at c.loop-b.b 0)) c.loop-b.to c.loop-b.tests new → (length new ≡ 64) × Holds (packed_test (code_of c.args.c) c.args.p c.args.s.now) (2 ^ (c.loop-b.b + 1)) new = λ new d. let a = c.args in
+    let more-at : (new : List ℕ) → Doubled (flipped_more (code_of c.args.c) (get_or c.args.keys.at c.loop-b.b 0)) c.loop-b.to c.loop-b.tests new → (length new ≡ 64) × Holds (packed_test (code_of c.args.c) c.args.p c.args.s.now) (2 ^ (c.loop-b.b + 1)) new =
+    λ new d. let a = c.args in
     let r = c.requires.ready.0 in
     let l = c.loop-b in (
       d.long ∙ l.invariant.2,
@@ -131,7 +136,8 @@ slice_bounds-try_on-end c =
 pub try_on-o-requires : goal.try_on-o-requires
 try_on-o-requires c =
     let step-at : Step c.loop-b.b c.args.p c.loop-b.to = step _ _ _ c.loop-b-test.true c.requires.ready.0.deep.ready.depth c.loop-b.invariant.1 in
-    let more-at : (new : List ℕ) → Doubled (flipped_more (code_of c.args.c) (get_or c.args.keys.at c.loop-b.b 0)) c.loop-b.to c.loop-b.tests new → (length new ≡ 64) × Holds (packed_test (code_of c.args.c) c.args.p c.args.s.now) (2 ^ (c.loop-b.b + 1)) new = λ new d. let a = c.args in
+    let more-at : (new : List ℕ) → Doubled (flipped_more (code_of c.args.c) (get_or c.args.keys.at c.loop-b.b 0)) c.loop-b.to c.loop-b.tests new → (length new ≡ 64) × Holds (packed_test (code_of c.args.c) c.args.p c.args.s.now) (2 ^ (c.loop-b.b + 1)) new =
+    λ new d. let a = c.args in
     let r = c.requires.ready.0 in
     let l = c.loop-b in (
       d.long ∙ l.invariant.2,
@@ -156,7 +162,8 @@ loop-b-smaller-else-o c =
 pub loop-b-preserved-else-o : goal.loop-b-preserved-else-o
 loop-b-preserved-else-o c =
     let step-at : Step c.loop-b.b c.args.p c.loop-b.to = step _ _ _ c.loop-b-test.true c.requires.ready.0.deep.ready.depth c.loop-b.invariant.1 in
-    let more-at : (new : List ℕ) → Doubled (flipped_more (code_of c.args.c) (get_or c.args.keys.at c.loop-b.b 0)) c.loop-b.to c.loop-b.tests new → (length new ≡ 64) × Holds (packed_test (code_of c.args.c) c.args.p c.args.s.now) (2 ^ (c.loop-b.b + 1)) new = λ new d. let a = c.args in
+    let more-at : (new : List ℕ) → Doubled (flipped_more (code_of c.args.c) (get_or c.args.keys.at c.loop-b.b 0)) c.loop-b.to c.loop-b.tests new → (length new ≡ 64) × Holds (packed_test (code_of c.args.c) c.args.p c.args.s.now) (2 ^ (c.loop-b.b + 1)) new =
+    λ new d. let a = c.args in
     let r = c.requires.ready.0 in
     let l = c.loop-b in (
       d.long ∙ l.invariant.2,
@@ -177,7 +184,8 @@ loop-b-smaller c =
 pub loop-b-preserved : goal.loop-b-preserved
 loop-b-preserved c =
     let step-at : Step c.loop-b.b c.args.p c.loop-b.to = step _ _ _ c.loop-b-test.true c.requires.ready.0.deep.ready.depth c.loop-b.invariant.1 in
-    let more-at : (new : List ℕ) → Doubled (flipped_more (code_of c.args.c) (get_or c.args.keys.at c.loop-b.b 0)) c.loop-b.to c.loop-b.tests new → (length new ≡ 64) × Holds (packed_test (code_of c.args.c) c.args.p c.args.s.now) (2 ^ (c.loop-b.b + 1)) new = λ new d. let a = c.args in
+    let more-at : (new : List ℕ) → Doubled (flipped_more (code_of c.args.c) (get_or c.args.keys.at c.loop-b.b 0)) c.loop-b.to c.loop-b.tests new → (length new ≡ 64) × Holds (packed_test (code_of c.args.c) c.args.p c.args.s.now) (2 ^ (c.loop-b.b + 1)) new =
+    λ new d. let a = c.args in
     let r = c.requires.ready.0 in
     let l = c.loop-b in (
       d.long ∙ l.invariant.2,

@@ -77,7 +77,8 @@ judged-o-requires c =
 
 pub returns-then-o : goal.returns-then-o
 returns-then-o c =
-    let after : Tried (code_of c.args.c) c.args.p c.args.s.now c.judged-o.result × (c.judged-o.result.tries ≡ c.next-e.result.tries) × (c.loop-o.o.tries < c.next-e.result.tries) × (c.next-e.result.tries ≤ length c.args.tests.now) = let a = c.args in
+    let after : Tried (code_of c.args.c) c.args.p c.args.s.now c.judged-o.result × (c.judged-o.result.tries ≡ c.next-e.result.tries) × (c.loop-o.o.tries < c.next-e.result.tries) × (c.next-e.result.tries ≤ length c.args.tests.now) =
+    let a = c.args in
     let l = c.loop-o in
     let n = c.next-e in
     let f = n.result.flips in
@@ -94,7 +95,8 @@ returns-then-o c =
 
 pub loop-o-smaller : goal.loop-o-smaller
 loop-o-smaller c =
-    let after : Tried (code_of c.args.c) c.args.p c.args.s.now c.judged-o.result × (c.judged-o.result.tries ≡ c.next-e.result.tries) × (c.loop-o.o.tries < c.next-e.result.tries) × (c.next-e.result.tries ≤ length c.args.tests.now) = let a = c.args in
+    let after : Tried (code_of c.args.c) c.args.p c.args.s.now c.judged-o.result × (c.judged-o.result.tries ≡ c.next-e.result.tries) × (c.loop-o.o.tries < c.next-e.result.tries) × (c.next-e.result.tries ≤ length c.args.tests.now) =
+    let a = c.args in
     let l = c.loop-o in
     let n = c.next-e in
     let f = n.result.flips in
@@ -111,7 +113,8 @@ loop-o-smaller c =
 
 pub loop-o-preserved : goal.loop-o-preserved
 loop-o-preserved c =
-    let after : Tried (code_of c.args.c) c.args.p c.args.s.now c.judged-o.result × (c.judged-o.result.tries ≡ c.next-e.result.tries) × (c.loop-o.o.tries < c.next-e.result.tries) × (c.next-e.result.tries ≤ length c.args.tests.now) = let a = c.args in
+    let after : Tried (code_of c.args.c) c.args.p c.args.s.now c.judged-o.result × (c.judged-o.result.tries ≡ c.next-e.result.tries) × (c.loop-o.o.tries < c.next-e.result.tries) × (c.next-e.result.tries ≤ length c.args.tests.now) =
+    let a = c.args in
     let l = c.loop-o in
     let n = c.next-e in
     let f = n.result.flips in

@@ -26,4 +26,7 @@ returns c =
     let d = c.decode_word in
     let stage = soft_stage (code_of a.c) a.p a.s.now in
     let written = d.ensures.out ∙ written_whole stage a.codeword.now in
-    record { answer = answer_told a.p a.s.now a.codeword.now d.result _ stage c.tell.result written d.ensures.answer.0 c.tell.ensures; codeword = written }
+    record {
+      answer = answer_told a.p a.s.now a.codeword.now d.result _ stage c.tell.result written d.ensures.answer.0 c.tell.ensures;
+      codeword = written;
+    }

@@ -46,7 +46,10 @@ returns-then-not-found c =
     }
 
 pub write_word-requires : goal.write_word-requires
-write_word-requires c = record { ready = c.keys_of-keys.ensures.0.ready; out_value = (c.requires.4 ∙ sym c.requires.2, rw c.requires.2 c.search-o.ensures.1.placed) }
+write_word-requires c = record {
+  ready = c.keys_of-keys.ensures.0.ready;
+  out_value = (c.requires.4 ∙ sym c.requires.2, rw c.requires.2 c.search-o.ensures.1.placed);
+}
 
 pub returns : goal.returns
 returns c =

@@ -64,19 +64,22 @@ loop-e-init c =
 
 pub overflow_add-x : goal.overflow_add-x
 overflow_add-x c =
-    let e-lt : (h : c.loop-e.e < c.args.c.period) → c.loop-e.e < 2 ^ c.args.c.m - 1 = λ h. subst (λ (p : ℕ). c.loop-e.e < p) c.requires.0.is_period h in
+    let e-lt : (h : c.loop-e.e < c.args.c.period) → c.loop-e.e < 2 ^ c.args.c.m - 1 =
+    λ h. subst (λ (p : ℕ). c.loop-e.e < p) c.requires.0.is_period h in
     let k = c.requires.0 in
     power_fits _ _ _ k.size_most k.is_powers (near _ _ (e-lt c.loop-e-test.true))
 
 pub offset_bounds-tables-c : goal.offset_bounds-tables-c
 offset_bounds-tables-c c =
-    let e-lt : (h : c.loop-e.e < c.args.c.period) → c.loop-e.e < 2 ^ c.args.c.m - 1 = λ h. subst (λ (p : ℕ). c.loop-e.e < p) c.requires.0.is_period h in
+    let e-lt : (h : c.loop-e.e < c.args.c.period) → c.loop-e.e < 2 ^ c.args.c.m - 1 =
+    λ h. subst (λ (p : ℕ). c.loop-e.e < p) c.requires.0.is_period h in
     let k = c.requires.0 in
     power_scaled _ _ _ k.size_most k.is_powers (near _ _ (e-lt c.loop-e-test.true))
 
 pub bounds-tables-c : goal.bounds-tables-c
 bounds-tables-c c =
-    let e-lt : (h : c.loop-e.e < c.args.c.period) → c.loop-e.e < 2 ^ c.args.c.m - 1 = λ h. subst (λ (p : ℕ). c.loop-e.e < p) c.requires.0.is_period h in
+    let e-lt : (h : c.loop-e.e < c.args.c.period) → c.loop-e.e < 2 ^ c.args.c.m - 1 =
+    λ h. subst (λ (p : ℕ). c.loop-e.e < p) c.requires.0.is_period h in
     power_at _ _ _ _ c.requires.0.is_powers (e-lt c.loop-e-test.true) c.loop-e.invariant.6.long
 
 pub overflow_mul-tables : goal.overflow_mul-tables
@@ -84,30 +87,42 @@ overflow_mul-tables c = product-fits _ _ c.requires.1.room
 
 pub overflow_add-tables : goal.overflow_add-tables
 overflow_add-tables c =
-    let e-lt : (h : c.loop-e.e < c.args.c.period) → c.loop-e.e < 2 ^ c.args.c.m - 1 = λ h. subst (λ (p : ℕ). c.loop-e.e < p) c.requires.0.is_period h in
-    let i_lt : (h : c.loop-e.e < c.args.c.period) → c.loop-e.i < 2 ^ c.args.c.m - 1 = λ h. turn_inside _ c.args.d c.loop-e.i c.loop-e.e (e-lt h) c.loop-e.invariant.5 in
-    let i-fits : (h : c.loop-e.e < c.args.c.period) → Fits w64 (c.args.c.powers + c.loop-e.i) = λ h. let k = c.requires.0 in power_fits _ _ _ k.size_most k.is_powers (near _ _ (i_lt h)) in
+    let e-lt : (h : c.loop-e.e < c.args.c.period) → c.loop-e.e < 2 ^ c.args.c.m - 1 =
+    λ h. subst (λ (p : ℕ). c.loop-e.e < p) c.requires.0.is_period h in
+    let i_lt : (h : c.loop-e.e < c.args.c.period) → c.loop-e.i < 2 ^ c.args.c.m - 1 =
+    λ h. turn_inside _ c.args.d c.loop-e.i c.loop-e.e (e-lt h) c.loop-e.invariant.5 in
+    let i-fits : (h : c.loop-e.e < c.args.c.period) → Fits w64 (c.args.c.powers + c.loop-e.i) =
+    λ h. let k = c.requires.0 in power_fits _ _ _ k.size_most k.is_powers (near _ _ (i_lt h)) in
     i-fits c.loop-e-test.true
 
 pub offset_bounds-tables-c-in-loop-e : goal.offset_bounds-tables-c-in-loop-e
 offset_bounds-tables-c-in-loop-e c =
-    let e-lt : (h : c.loop-e.e < c.args.c.period) → c.loop-e.e < 2 ^ c.args.c.m - 1 = λ h. subst (λ (p : ℕ). c.loop-e.e < p) c.requires.0.is_period h in
-    let i_lt : (h : c.loop-e.e < c.args.c.period) → c.loop-e.i < 2 ^ c.args.c.m - 1 = λ h. turn_inside _ c.args.d c.loop-e.i c.loop-e.e (e-lt h) c.loop-e.invariant.5 in
-    let i-scaled : (h : c.loop-e.e < c.args.c.period) → Fits w64 ((c.args.c.powers + c.loop-e.i) * 4) = λ h. let k = c.requires.0 in power_scaled _ _ _ k.size_most k.is_powers (near _ _ (i_lt h)) in
+    let e-lt : (h : c.loop-e.e < c.args.c.period) → c.loop-e.e < 2 ^ c.args.c.m - 1 =
+    λ h. subst (λ (p : ℕ). c.loop-e.e < p) c.requires.0.is_period h in
+    let i_lt : (h : c.loop-e.e < c.args.c.period) → c.loop-e.i < 2 ^ c.args.c.m - 1 =
+    λ h. turn_inside _ c.args.d c.loop-e.i c.loop-e.e (e-lt h) c.loop-e.invariant.5 in
+    let i-scaled : (h : c.loop-e.e < c.args.c.period) → Fits w64 ((c.args.c.powers + c.loop-e.i) * 4) =
+    λ h. let k = c.requires.0 in power_scaled _ _ _ k.size_most k.is_powers (near _ _ (i_lt h)) in
     i-scaled c.loop-e-test.true
 
 pub bounds-tables-c-in-loop-e : goal.bounds-tables-c-in-loop-e
 bounds-tables-c-in-loop-e c =
-    let e-lt : (h : c.loop-e.e < c.args.c.period) → c.loop-e.e < 2 ^ c.args.c.m - 1 = λ h. subst (λ (p : ℕ). c.loop-e.e < p) c.requires.0.is_period h in
-    let i_lt : (h : c.loop-e.e < c.args.c.period) → c.loop-e.i < 2 ^ c.args.c.m - 1 = λ h. turn_inside _ c.args.d c.loop-e.i c.loop-e.e (e-lt h) c.loop-e.invariant.5 in
-    let i-at : (h : c.loop-e.e < c.args.c.period) → c.args.c.powers + c.loop-e.i < length c.loop-e.tables = λ h. power_at _ _ _ _ c.requires.0.is_powers (i_lt h) c.loop-e.invariant.6.long in
+    let e-lt : (h : c.loop-e.e < c.args.c.period) → c.loop-e.e < 2 ^ c.args.c.m - 1 =
+    λ h. subst (λ (p : ℕ). c.loop-e.e < p) c.requires.0.is_period h in
+    let i_lt : (h : c.loop-e.e < c.args.c.period) → c.loop-e.i < 2 ^ c.args.c.m - 1 =
+    λ h. turn_inside _ c.args.d c.loop-e.i c.loop-e.e (e-lt h) c.loop-e.invariant.5 in
+    let i-at : (h : c.loop-e.e < c.args.c.period) → c.args.c.powers + c.loop-e.i < length c.loop-e.tables =
+    λ h. power_at _ _ _ _ c.requires.0.is_powers (i_lt h) c.loop-e.invariant.6.long in
     i-at c.loop-e-test.true
 
 pub overflow_add-tables-in-loop-e : goal.overflow_add-tables-in-loop-e
 overflow_add-tables-in-loop-e c =
-    let e-lt : (h : c.loop-e.e < c.args.c.period) → c.loop-e.e < 2 ^ c.args.c.m - 1 = λ h. subst (λ (p : ℕ). c.loop-e.e < p) c.requires.0.is_period h in
-    let i_lt : (h : c.loop-e.e < c.args.c.period) → c.loop-e.i < 2 ^ c.args.c.m - 1 = λ h. turn_inside _ c.args.d c.loop-e.i c.loop-e.e (e-lt h) c.loop-e.invariant.5 in
-    let entry_lt : (h : c.loop-e.e < c.args.c.period) → get_or c.loop-e.tables (c.args.c.powers + c.loop-e.i) 0 < c.args.scale = λ h. let a = c.args in
+    let e-lt : (h : c.loop-e.e < c.args.c.period) → c.loop-e.e < 2 ^ c.args.c.m - 1 =
+    λ h. subst (λ (p : ℕ). c.loop-e.e < p) c.requires.0.is_period h in
+    let i_lt : (h : c.loop-e.e < c.args.c.period) → c.loop-e.i < 2 ^ c.args.c.m - 1 =
+    λ h. turn_inside _ c.args.d c.loop-e.i c.loop-e.e (e-lt h) c.loop-e.invariant.5 in
+    let entry_lt : (h : c.loop-e.e < c.args.c.period) → get_or c.loop-e.tables (c.args.c.powers + c.loop-e.i) 0 < c.args.scale =
+    λ h. let a = c.args in
     let m = a.c.m in
     let l = c.loop-e in
     subst (λ (x : ℕ). x < a.scale)
@@ -119,35 +134,45 @@ overflow_add-tables-in-loop-e c =
 
 pub bounds-tables-c-in-loop-e-2 : goal.bounds-tables-c-in-loop-e-2
 bounds-tables-c-in-loop-e-2 c =
-    let e-lt : (h : c.loop-e.e < c.args.c.period) → c.loop-e.e < 2 ^ c.args.c.m - 1 = λ h. subst (λ (p : ℕ). c.loop-e.e < p) c.requires.0.is_period h in
-    let i_lt : (h : c.loop-e.e < c.args.c.period) → c.loop-e.i < 2 ^ c.args.c.m - 1 = λ h. turn_inside _ c.args.d c.loop-e.i c.loop-e.e (e-lt h) c.loop-e.invariant.5 in
-    let i-at : (h : c.loop-e.e < c.args.c.period) → c.args.c.powers + c.loop-e.i < length c.loop-e.tables = λ h. power_at _ _ _ _ c.requires.0.is_powers (i_lt h) c.loop-e.invariant.6.long in
+    let e-lt : (h : c.loop-e.e < c.args.c.period) → c.loop-e.e < 2 ^ c.args.c.m - 1 =
+    λ h. subst (λ (p : ℕ). c.loop-e.e < p) c.requires.0.is_period h in
+    let i_lt : (h : c.loop-e.e < c.args.c.period) → c.loop-e.i < 2 ^ c.args.c.m - 1 =
+    λ h. turn_inside _ c.args.d c.loop-e.i c.loop-e.e (e-lt h) c.loop-e.invariant.5 in
+    let i-at : (h : c.loop-e.e < c.args.c.period) → c.args.c.powers + c.loop-e.i < length c.loop-e.tables =
+    λ h. power_at _ _ _ _ c.requires.0.is_powers (i_lt h) c.loop-e.invariant.6.long in
     i-at c.loop-e-test.true
 
 pub overflow_add-e : goal.overflow_add-e
 overflow_add-e c =
-    let e-lt : (h : c.loop-e.e < c.args.c.period) → c.loop-e.e < 2 ^ c.args.c.m - 1 = λ h. subst (λ (p : ℕ). c.loop-e.e < p) c.requires.0.is_period h in
+    let e-lt : (h : c.loop-e.e < c.args.c.period) → c.loop-e.e < 2 ^ c.args.c.m - 1 =
+    λ h. subst (λ (p : ℕ). c.loop-e.e < p) c.requires.0.is_period h in
     let h = e-lt c.loop-e-test.true in
     step_fits _ _ _ c.requires.0.size_most (near _ _ h) (few _ c.requires.1.d_most)
 
 pub overflow_add-i : goal.overflow_add-i
 overflow_add-i c =
-    let e-lt : (h : c.loop-e.e < c.args.c.period) → c.loop-e.e < 2 ^ c.args.c.m - 1 = λ h. subst (λ (p : ℕ). c.loop-e.e < p) c.requires.0.is_period h in
-    let i_lt : (h : c.loop-e.e < c.args.c.period) → c.loop-e.i < 2 ^ c.args.c.m - 1 = λ h. turn_inside _ c.args.d c.loop-e.i c.loop-e.e (e-lt h) c.loop-e.invariant.5 in
+    let e-lt : (h : c.loop-e.e < c.args.c.period) → c.loop-e.e < 2 ^ c.args.c.m - 1 =
+    λ h. subst (λ (p : ℕ). c.loop-e.e < p) c.requires.0.is_period h in
+    let i_lt : (h : c.loop-e.e < c.args.c.period) → c.loop-e.i < 2 ^ c.args.c.m - 1 =
+    λ h. turn_inside _ c.args.d c.loop-e.i c.loop-e.e (e-lt h) c.loop-e.invariant.5 in
     let h = i_lt c.loop-e-test.true in
     step_fits _ _ 1 c.requires.0.size_most (near _ _ h) (omega arith)
 
 pub loop-e-smaller : goal.loop-e-smaller
 loop-e-smaller c =
-    let e-lt : (h : c.loop-e.e < c.args.c.period) → c.loop-e.e < 2 ^ c.args.c.m - 1 = λ h. subst (λ (p : ℕ). c.loop-e.e < p) c.requires.0.is_period h in
-    let i_lt : (h : c.loop-e.e < c.args.c.period) → c.loop-e.i < 2 ^ c.args.c.m - 1 = λ h. turn_inside _ c.args.d c.loop-e.i c.loop-e.e (e-lt h) c.loop-e.invariant.5 in
+    let e-lt : (h : c.loop-e.e < c.args.c.period) → c.loop-e.e < 2 ^ c.args.c.m - 1 =
+    λ h. subst (λ (p : ℕ). c.loop-e.e < p) c.requires.0.is_period h in
+    let i_lt : (h : c.loop-e.e < c.args.c.period) → c.loop-e.i < 2 ^ c.args.c.m - 1 =
+    λ h. turn_inside _ c.args.d c.loop-e.i c.loop-e.e (e-lt h) c.loop-e.invariant.5 in
     falls _ _ (i_lt c.loop-e-test.true)
 
 pub loop-e-preserved : goal.loop-e-preserved
 loop-e-preserved c =
     let g : (h : c.loop-e.e < c.args.c.period) → Primitive c.args.c.m = λ h. let k = c.requires.0.lawful in primitive_5_10 _ k.m_least k.m_most in
-    let e-lt : (h : c.loop-e.e < c.args.c.period) → c.loop-e.e < 2 ^ c.args.c.m - 1 = λ h. subst (λ (p : ℕ). c.loop-e.e < p) c.requires.0.is_period h in
-    let i_lt : (h : c.loop-e.e < c.args.c.period) → c.loop-e.i < 2 ^ c.args.c.m - 1 = λ h. turn_inside _ c.args.d c.loop-e.i c.loop-e.e (e-lt h) c.loop-e.invariant.5 in
+    let e-lt : (h : c.loop-e.e < c.args.c.period) → c.loop-e.e < 2 ^ c.args.c.m - 1 =
+    λ h. subst (λ (p : ℕ). c.loop-e.e < p) c.requires.0.is_period h in
+    let i_lt : (h : c.loop-e.e < c.args.c.period) → c.loop-e.i < 2 ^ c.args.c.m - 1 =
+    λ h. turn_inside _ c.args.d c.loop-e.i c.loop-e.e (e-lt h) c.loop-e.invariant.5 in
     let a = c.args in
     let m = a.c.m in
     let l = c.loop-e in

@@ -44,34 +44,44 @@ loop-e-init c =
 
 pub overflow_add-powers : goal.overflow_add-powers
 overflow_add-powers c =
-    let e-lt : (h : c.loop-e.e < c.args.c.period) → c.loop-e.e < 2 ^ c.args.c.m - 1 = λ h. subst (λ (p : ℕ). c.loop-e.e < p) c.requires.0.is_period h in
-    let l_lt : (h : c.loop-e.e < c.args.c.period) → c.loop-e.l < 2 ^ c.args.c.m - 1 = λ h. turn_inside _ 3 c.loop-e.l c.loop-e.e (e-lt h) c.loop-e.invariant.6 in
+    let e-lt : (h : c.loop-e.e < c.args.c.period) → c.loop-e.e < 2 ^ c.args.c.m - 1 =
+    λ h. subst (λ (p : ℕ). c.loop-e.e < p) c.requires.0.is_period h in
+    let l_lt : (h : c.loop-e.e < c.args.c.period) → c.loop-e.l < 2 ^ c.args.c.m - 1 =
+    λ h. turn_inside _ 3 c.loop-e.l c.loop-e.e (e-lt h) c.loop-e.invariant.6 in
     let l-near : (h : c.loop-e.e < c.args.c.period) → c.loop-e.l < 2 ^ c.args.c.m + 8 = λ h. near _ _ (l_lt h) in
     let k = c.requires.0 in
     power_fits _ _ _ k.size_most k.is_powers (l-near c.loop-e-test.true)
 
 pub offset_bounds-tables-powers : goal.offset_bounds-tables-powers
 offset_bounds-tables-powers c =
-    let e-lt : (h : c.loop-e.e < c.args.c.period) → c.loop-e.e < 2 ^ c.args.c.m - 1 = λ h. subst (λ (p : ℕ). c.loop-e.e < p) c.requires.0.is_period h in
-    let l_lt : (h : c.loop-e.e < c.args.c.period) → c.loop-e.l < 2 ^ c.args.c.m - 1 = λ h. turn_inside _ 3 c.loop-e.l c.loop-e.e (e-lt h) c.loop-e.invariant.6 in
+    let e-lt : (h : c.loop-e.e < c.args.c.period) → c.loop-e.e < 2 ^ c.args.c.m - 1 =
+    λ h. subst (λ (p : ℕ). c.loop-e.e < p) c.requires.0.is_period h in
+    let l_lt : (h : c.loop-e.e < c.args.c.period) → c.loop-e.l < 2 ^ c.args.c.m - 1 =
+    λ h. turn_inside _ 3 c.loop-e.l c.loop-e.e (e-lt h) c.loop-e.invariant.6 in
     let l-near : (h : c.loop-e.e < c.args.c.period) → c.loop-e.l < 2 ^ c.args.c.m + 8 = λ h. near _ _ (l_lt h) in
     let k = c.requires.0 in
     power_scaled _ _ _ k.size_most k.is_powers (l-near c.loop-e-test.true)
 
 pub bounds-tables-powers : goal.bounds-tables-powers
 bounds-tables-powers c =
-    let e-lt : (h : c.loop-e.e < c.args.c.period) → c.loop-e.e < 2 ^ c.args.c.m - 1 = λ h. subst (λ (p : ℕ). c.loop-e.e < p) c.requires.0.is_period h in
-    let l_lt : (h : c.loop-e.e < c.args.c.period) → c.loop-e.l < 2 ^ c.args.c.m - 1 = λ h. turn_inside _ 3 c.loop-e.l c.loop-e.e (e-lt h) c.loop-e.invariant.6 in
+    let e-lt : (h : c.loop-e.e < c.args.c.period) → c.loop-e.e < 2 ^ c.args.c.m - 1 =
+    λ h. subst (λ (p : ℕ). c.loop-e.e < p) c.requires.0.is_period h in
+    let l_lt : (h : c.loop-e.e < c.args.c.period) → c.loop-e.l < 2 ^ c.args.c.m - 1 =
+    λ h. turn_inside _ 3 c.loop-e.l c.loop-e.e (e-lt h) c.loop-e.invariant.6 in
     power_at _ _ _ _ c.requires.0.is_powers (l_lt c.loop-e-test.true) c.loop-e.invariant.7.long
 
 pub offset_bounds-tables-x : goal.offset_bounds-tables-x
 offset_bounds-tables-x c =
     let g : (h : c.loop-e.e < c.args.c.period) → Primitive c.args.c.m = λ h. let k = c.requires.0.lawful in primitive_5_10 _ k.m_least k.m_most in
-    let e-lt : (h : c.loop-e.e < c.args.c.period) → c.loop-e.e < 2 ^ c.args.c.m - 1 = λ h. subst (λ (p : ℕ). c.loop-e.e < p) c.requires.0.is_period h in
-    let l_lt : (h : c.loop-e.e < c.args.c.period) → c.loop-e.l < 2 ^ c.args.c.m - 1 = λ h. turn_inside _ 3 c.loop-e.l c.loop-e.e (e-lt h) c.loop-e.invariant.6 in
-    let is-next : (h : c.loop-e.e < c.args.c.period) → (x : ℕ) → x ≡ bit_xor (get_or c.loop-e.tables (c.args.c.powers + c.loop-e.l) 0 % 1024) 1 → x ≡ bit_xor (get_or c.loop-e.tables (2 ^ c.args.c.m + c.loop-e.l) 0 % 1024) 1 = λ h x is_x. let is_powers = c.requires.0.is_powers in
+    let e-lt : (h : c.loop-e.e < c.args.c.period) → c.loop-e.e < 2 ^ c.args.c.m - 1 =
+    λ h. subst (λ (p : ℕ). c.loop-e.e < p) c.requires.0.is_period h in
+    let l_lt : (h : c.loop-e.e < c.args.c.period) → c.loop-e.l < 2 ^ c.args.c.m - 1 =
+    λ h. turn_inside _ 3 c.loop-e.l c.loop-e.e (e-lt h) c.loop-e.invariant.6 in
+    let is-next : (h : c.loop-e.e < c.args.c.period) → (x : ℕ) → x ≡ bit_xor (get_or c.loop-e.tables (c.args.c.powers + c.loop-e.l) 0 % 1024) 1 → x ≡ bit_xor (get_or c.loop-e.tables (2 ^ c.args.c.m + c.loop-e.l) 0 % 1024) 1 =
+    λ h x is_x. let is_powers = c.requires.0.is_powers in
     is_x ∙ ap (λ (p : ℕ). bit_xor (get_or c.loop-e.tables (p + c.loop-e.l) 0 % 1024) 1) is_powers in
-    let next-lt : (h : c.loop-e.e < c.args.c.period) → (x : ℕ) → x ≡ bit_xor (get_or c.loop-e.tables (c.args.c.powers + c.loop-e.l) 0 % 1024) 1 → (x < 2 ^ c.args.c.m) × (get_or c.loop-e.tables x 0 < 2 ^ c.args.c.m - 1) = λ h x is_x. let l = c.loop-e in
+    let next-lt : (h : c.loop-e.e < c.args.c.period) → (x : ℕ) → x ≡ bit_xor (get_or c.loop-e.tables (c.args.c.powers + c.loop-e.l) 0 % 1024) 1 → (x < 2 ^ c.args.c.m) × (get_or c.loop-e.tables x 0 < 2 ^ c.args.c.m - 1) =
+    λ h x is_x. let l = c.loop-e in
     let k = c.requires.0.lawful in
     next_entry c.args.c.m (g h) c.requires.0.size_most c.args.c.t l.tables l.invariant.7 l.l x k.t_least k.t_most k.m_most
     l.invariant.0 (l_lt h) ((is-next h) x is_x) in
@@ -81,11 +91,15 @@ offset_bounds-tables-x c =
 pub bounds-tables-x : goal.bounds-tables-x
 bounds-tables-x c =
     let g : (h : c.loop-e.e < c.args.c.period) → Primitive c.args.c.m = λ h. let k = c.requires.0.lawful in primitive_5_10 _ k.m_least k.m_most in
-    let e-lt : (h : c.loop-e.e < c.args.c.period) → c.loop-e.e < 2 ^ c.args.c.m - 1 = λ h. subst (λ (p : ℕ). c.loop-e.e < p) c.requires.0.is_period h in
-    let l_lt : (h : c.loop-e.e < c.args.c.period) → c.loop-e.l < 2 ^ c.args.c.m - 1 = λ h. turn_inside _ 3 c.loop-e.l c.loop-e.e (e-lt h) c.loop-e.invariant.6 in
-    let is-next : (h : c.loop-e.e < c.args.c.period) → (x : ℕ) → x ≡ bit_xor (get_or c.loop-e.tables (c.args.c.powers + c.loop-e.l) 0 % 1024) 1 → x ≡ bit_xor (get_or c.loop-e.tables (2 ^ c.args.c.m + c.loop-e.l) 0 % 1024) 1 = λ h x is_x. let is_powers = c.requires.0.is_powers in
+    let e-lt : (h : c.loop-e.e < c.args.c.period) → c.loop-e.e < 2 ^ c.args.c.m - 1 =
+    λ h. subst (λ (p : ℕ). c.loop-e.e < p) c.requires.0.is_period h in
+    let l_lt : (h : c.loop-e.e < c.args.c.period) → c.loop-e.l < 2 ^ c.args.c.m - 1 =
+    λ h. turn_inside _ 3 c.loop-e.l c.loop-e.e (e-lt h) c.loop-e.invariant.6 in
+    let is-next : (h : c.loop-e.e < c.args.c.period) → (x : ℕ) → x ≡ bit_xor (get_or c.loop-e.tables (c.args.c.powers + c.loop-e.l) 0 % 1024) 1 → x ≡ bit_xor (get_or c.loop-e.tables (2 ^ c.args.c.m + c.loop-e.l) 0 % 1024) 1 =
+    λ h x is_x. let is_powers = c.requires.0.is_powers in
     is_x ∙ ap (λ (p : ℕ). bit_xor (get_or c.loop-e.tables (p + c.loop-e.l) 0 % 1024) 1) is_powers in
-    let next-lt : (h : c.loop-e.e < c.args.c.period) → (x : ℕ) → x ≡ bit_xor (get_or c.loop-e.tables (c.args.c.powers + c.loop-e.l) 0 % 1024) 1 → (x < 2 ^ c.args.c.m) × (get_or c.loop-e.tables x 0 < 2 ^ c.args.c.m - 1) = λ h x is_x. let l = c.loop-e in
+    let next-lt : (h : c.loop-e.e < c.args.c.period) → (x : ℕ) → x ≡ bit_xor (get_or c.loop-e.tables (c.args.c.powers + c.loop-e.l) 0 % 1024) 1 → (x < 2 ^ c.args.c.m) × (get_or c.loop-e.tables x 0 < 2 ^ c.args.c.m - 1) =
+    λ h x is_x. let l = c.loop-e in
     let k = c.requires.0.lawful in
     next_entry c.args.c.m (g h) c.requires.0.size_most c.args.c.t l.tables l.invariant.7 l.l x k.t_least k.t_most k.m_most
     l.invariant.0 (l_lt h) ((is-next h) x is_x) in
@@ -95,11 +109,15 @@ bounds-tables-x c =
 pub behind-requires : goal.behind-requires
 behind-requires c =
     let g : (h : c.loop-e.e < c.args.c.period) → Primitive c.args.c.m = λ h. let k = c.requires.0.lawful in primitive_5_10 _ k.m_least k.m_most in
-    let e-lt : (h : c.loop-e.e < c.args.c.period) → c.loop-e.e < 2 ^ c.args.c.m - 1 = λ h. subst (λ (p : ℕ). c.loop-e.e < p) c.requires.0.is_period h in
-    let l_lt : (h : c.loop-e.e < c.args.c.period) → c.loop-e.l < 2 ^ c.args.c.m - 1 = λ h. turn_inside _ 3 c.loop-e.l c.loop-e.e (e-lt h) c.loop-e.invariant.6 in
-    let is-next : (h : c.loop-e.e < c.args.c.period) → (x : ℕ) → x ≡ bit_xor (get_or c.loop-e.tables (c.args.c.powers + c.loop-e.l) 0 % 1024) 1 → x ≡ bit_xor (get_or c.loop-e.tables (2 ^ c.args.c.m + c.loop-e.l) 0 % 1024) 1 = λ h x is_x. let is_powers = c.requires.0.is_powers in
+    let e-lt : (h : c.loop-e.e < c.args.c.period) → c.loop-e.e < 2 ^ c.args.c.m - 1 =
+    λ h. subst (λ (p : ℕ). c.loop-e.e < p) c.requires.0.is_period h in
+    let l_lt : (h : c.loop-e.e < c.args.c.period) → c.loop-e.l < 2 ^ c.args.c.m - 1 =
+    λ h. turn_inside _ 3 c.loop-e.l c.loop-e.e (e-lt h) c.loop-e.invariant.6 in
+    let is-next : (h : c.loop-e.e < c.args.c.period) → (x : ℕ) → x ≡ bit_xor (get_or c.loop-e.tables (c.args.c.powers + c.loop-e.l) 0 % 1024) 1 → x ≡ bit_xor (get_or c.loop-e.tables (2 ^ c.args.c.m + c.loop-e.l) 0 % 1024) 1 =
+    λ h x is_x. let is_powers = c.requires.0.is_powers in
     is_x ∙ ap (λ (p : ℕ). bit_xor (get_or c.loop-e.tables (p + c.loop-e.l) 0 % 1024) 1) is_powers in
-    let next-lt : (h : c.loop-e.e < c.args.c.period) → (x : ℕ) → x ≡ bit_xor (get_or c.loop-e.tables (c.args.c.powers + c.loop-e.l) 0 % 1024) 1 → (x < 2 ^ c.args.c.m) × (get_or c.loop-e.tables x 0 < 2 ^ c.args.c.m - 1) = λ h x is_x. let l = c.loop-e in
+    let next-lt : (h : c.loop-e.e < c.args.c.period) → (x : ℕ) → x ≡ bit_xor (get_or c.loop-e.tables (c.args.c.powers + c.loop-e.l) 0 % 1024) 1 → (x < 2 ^ c.args.c.m) × (get_or c.loop-e.tables x 0 < 2 ^ c.args.c.m - 1) =
+    λ h x is_x. let l = c.loop-e in
     let k = c.requires.0.lawful in
     next_entry c.args.c.m (g h) c.requires.0.size_most c.args.c.t l.tables l.invariant.7 l.l x k.t_least k.t_most k.m_most
     l.invariant.0 (l_lt h) ((is-next h) x is_x) in
@@ -128,8 +146,10 @@ overflow_mul-tables c = low_scaled _
 
 pub overflow_add-tables : goal.overflow_add-tables
 overflow_add-tables c =
-    let e-lt : (h : c.loop-e.e < c.args.c.period) → c.loop-e.e < 2 ^ c.args.c.m - 1 = λ h. subst (λ (p : ℕ). c.loop-e.e < p) c.requires.0.is_period h in
-    let l_lt : (h : c.loop-e.e < c.args.c.period) → c.loop-e.l < 2 ^ c.args.c.m - 1 = λ h. turn_inside _ 3 c.loop-e.l c.loop-e.e (e-lt h) c.loop-e.invariant.6 in
+    let e-lt : (h : c.loop-e.e < c.args.c.period) → c.loop-e.e < 2 ^ c.args.c.m - 1 =
+    λ h. subst (λ (p : ℕ). c.loop-e.e < p) c.requires.0.is_period h in
+    let l_lt : (h : c.loop-e.e < c.args.c.period) → c.loop-e.l < 2 ^ c.args.c.m - 1 =
+    λ h. turn_inside _ 3 c.loop-e.l c.loop-e.e (e-lt h) c.loop-e.invariant.6 in
     let h = l_lt c.loop-e-test.true in
     low_and _ _ _ _ c.requires.0.size_most (inside _ _ h) c.narrow.ensures
 
@@ -146,30 +166,38 @@ bounds-tables-at-in-loop-e c =
 
 pub overflow_add-e : goal.overflow_add-e
 overflow_add-e c =
-    let e-lt : (h : c.loop-e.e < c.args.c.period) → c.loop-e.e < 2 ^ c.args.c.m - 1 = λ h. subst (λ (p : ℕ). c.loop-e.e < p) c.requires.0.is_period h in
+    let e-lt : (h : c.loop-e.e < c.args.c.period) → c.loop-e.e < 2 ^ c.args.c.m - 1 =
+    λ h. subst (λ (p : ℕ). c.loop-e.e < p) c.requires.0.is_period h in
     let h = e-lt c.loop-e-test.true in
     step_fits _ _ 3 c.requires.0.size_most (near _ _ h) (omega arith)
 
 pub overflow_add-l : goal.overflow_add-l
 overflow_add-l c =
-    let e-lt : (h : c.loop-e.e < c.args.c.period) → c.loop-e.e < 2 ^ c.args.c.m - 1 = λ h. subst (λ (p : ℕ). c.loop-e.e < p) c.requires.0.is_period h in
-    let l_lt : (h : c.loop-e.e < c.args.c.period) → c.loop-e.l < 2 ^ c.args.c.m - 1 = λ h. turn_inside _ 3 c.loop-e.l c.loop-e.e (e-lt h) c.loop-e.invariant.6 in
+    let e-lt : (h : c.loop-e.e < c.args.c.period) → c.loop-e.e < 2 ^ c.args.c.m - 1 =
+    λ h. subst (λ (p : ℕ). c.loop-e.e < p) c.requires.0.is_period h in
+    let l_lt : (h : c.loop-e.e < c.args.c.period) → c.loop-e.l < 2 ^ c.args.c.m - 1 =
+    λ h. turn_inside _ 3 c.loop-e.l c.loop-e.e (e-lt h) c.loop-e.invariant.6 in
     let l-near : (h : c.loop-e.e < c.args.c.period) → c.loop-e.l < 2 ^ c.args.c.m + 8 = λ h. near _ _ (l_lt h) in
     let h = l-near c.loop-e-test.true in
     step_fits _ _ 1 c.requires.0.size_most h (omega arith)
 
 pub loop-e-smaller : goal.loop-e-smaller
 loop-e-smaller c =
-    let e-lt : (h : c.loop-e.e < c.args.c.period) → c.loop-e.e < 2 ^ c.args.c.m - 1 = λ h. subst (λ (p : ℕ). c.loop-e.e < p) c.requires.0.is_period h in
-    let l_lt : (h : c.loop-e.e < c.args.c.period) → c.loop-e.l < 2 ^ c.args.c.m - 1 = λ h. turn_inside _ 3 c.loop-e.l c.loop-e.e (e-lt h) c.loop-e.invariant.6 in
+    let e-lt : (h : c.loop-e.e < c.args.c.period) → c.loop-e.e < 2 ^ c.args.c.m - 1 =
+    λ h. subst (λ (p : ℕ). c.loop-e.e < p) c.requires.0.is_period h in
+    let l_lt : (h : c.loop-e.e < c.args.c.period) → c.loop-e.l < 2 ^ c.args.c.m - 1 =
+    λ h. turn_inside _ 3 c.loop-e.l c.loop-e.e (e-lt h) c.loop-e.invariant.6 in
     falls _ _ (l_lt c.loop-e-test.true)
 
 pub loop-e-preserved : goal.loop-e-preserved
 loop-e-preserved c =
     let g : (h : c.loop-e.e < c.args.c.period) → Primitive c.args.c.m = λ h. let k = c.requires.0.lawful in primitive_5_10 _ k.m_least k.m_most in
-    let e-lt : (h : c.loop-e.e < c.args.c.period) → c.loop-e.e < 2 ^ c.args.c.m - 1 = λ h. subst (λ (p : ℕ). c.loop-e.e < p) c.requires.0.is_period h in
-    let l_lt : (h : c.loop-e.e < c.args.c.period) → c.loop-e.l < 2 ^ c.args.c.m - 1 = λ h. turn_inside _ 3 c.loop-e.l c.loop-e.e (e-lt h) c.loop-e.invariant.6 in
-    let is-next : (h : c.loop-e.e < c.args.c.period) → (x : ℕ) → x ≡ bit_xor (get_or c.loop-e.tables (c.args.c.powers + c.loop-e.l) 0 % 1024) 1 → x ≡ bit_xor (get_or c.loop-e.tables (2 ^ c.args.c.m + c.loop-e.l) 0 % 1024) 1 = λ h x is_x. let is_powers = c.requires.0.is_powers in
+    let e-lt : (h : c.loop-e.e < c.args.c.period) → c.loop-e.e < 2 ^ c.args.c.m - 1 =
+    λ h. subst (λ (p : ℕ). c.loop-e.e < p) c.requires.0.is_period h in
+    let l_lt : (h : c.loop-e.e < c.args.c.period) → c.loop-e.l < 2 ^ c.args.c.m - 1 =
+    λ h. turn_inside _ 3 c.loop-e.l c.loop-e.e (e-lt h) c.loop-e.invariant.6 in
+    let is-next : (h : c.loop-e.e < c.args.c.period) → (x : ℕ) → x ≡ bit_xor (get_or c.loop-e.tables (c.args.c.powers + c.loop-e.l) 0 % 1024) 1 → x ≡ bit_xor (get_or c.loop-e.tables (2 ^ c.args.c.m + c.loop-e.l) 0 % 1024) 1 =
+    λ h x is_x. let is_powers = c.requires.0.is_powers in
     is_x ∙ ap (λ (p : ℕ). bit_xor (get_or c.loop-e.tables (p + c.loop-e.l) 0 % 1024) 1) is_powers in
     let k = c.requires.0 in
     let l = c.loop-e in

@@ -58,11 +58,16 @@ loop-w-init c = (omega arith, refl, least _ c.requires.0.size_least, refl, c.req
 
 pub overflow_add-wide : goal.overflow_add-wide
 overflow_add-wide c =
-    let h : (test : c.loop-w.w < c.args.c.period) → c.loop-w.w < 2 ^ c.args.c.m - 1 = λ test. subst (λ (p : ℕ). c.loop-w.w < p) c.requires.0.is_period test in
-    let g : (test : c.loop-w.w < c.args.c.period) → Primitive c.args.c.m = λ test. let k = c.requires.0.lawful in primitive_5_10 c.args.c.m k.m_least k.m_most in
-    let log_lt : (test : c.loop-w.w < c.args.c.period) → (x : ℕ) → 2 ≤ x → x < 2 ^ c.args.c.m → get_or c.loop-w.tables x 0 < 2 ^ c.args.c.m - 1 = λ test x l u. filled_log_lt c.args.c.m (g test) c.requires.0.size_most c.args.c.t c.loop-w.tables c.loop-w.invariant.4 x (above x l) u in
-    let first_lt : (test : c.loop-w.w < c.args.c.period) → get_or c.loop-w.tables c.loop-w.w 0 < 2 ^ c.args.c.m - 1 = λ test. (log_lt test) c.loop-w.w c.loop-w.invariant.0 (next-lt _ _ (h test)).0 in
-    let second_lt : (test : c.loop-w.w < c.args.c.period) → get_or c.loop-w.tables (c.loop-w.w + 1) 0 < 2 ^ c.args.c.m - 1 = λ test. (log_lt test) (c.loop-w.w + 1) (after _ c.loop-w.invariant.0) (next-lt _ _ (h test)).1 in
+    let h : (test : c.loop-w.w < c.args.c.period) → c.loop-w.w < 2 ^ c.args.c.m - 1 =
+    λ test. subst (λ (p : ℕ). c.loop-w.w < p) c.requires.0.is_period test in
+    let g : (test : c.loop-w.w < c.args.c.period) → Primitive c.args.c.m =
+    λ test. let k = c.requires.0.lawful in primitive_5_10 c.args.c.m k.m_least k.m_most in
+    let log_lt : (test : c.loop-w.w < c.args.c.period) → (x : ℕ) → 2 ≤ x → x < 2 ^ c.args.c.m → get_or c.loop-w.tables x 0 < 2 ^ c.args.c.m - 1 =
+    λ test x l u. filled_log_lt c.args.c.m (g test) c.requires.0.size_most c.args.c.t c.loop-w.tables c.loop-w.invariant.4 x (above x l) u in
+    let first_lt : (test : c.loop-w.w < c.args.c.period) → get_or c.loop-w.tables c.loop-w.w 0 < 2 ^ c.args.c.m - 1 =
+    λ test. (log_lt test) c.loop-w.w c.loop-w.invariant.0 (next-lt _ _ (h test)).0 in
+    let second_lt : (test : c.loop-w.w < c.args.c.period) → get_or c.loop-w.tables (c.loop-w.w + 1) 0 < 2 ^ c.args.c.m - 1 =
+    λ test. (log_lt test) (c.loop-w.w + 1) (after _ c.loop-w.invariant.0) (next-lt _ _ (h test)).1 in
     let k = c.requires.0 in
     let h = c.loop-w-test.true in
     let fits = both-fit _ _ _ k.size_most (first_lt h) (second_lt h) in
@@ -70,33 +75,48 @@ overflow_add-wide c =
 
 pub overflow_mul-tables : goal.overflow_mul-tables
 overflow_mul-tables c =
-    let h : (test : c.loop-w.w < c.args.c.period) → c.loop-w.w < 2 ^ c.args.c.m - 1 = λ test. subst (λ (p : ℕ). c.loop-w.w < p) c.requires.0.is_period test in
-    let g : (test : c.loop-w.w < c.args.c.period) → Primitive c.args.c.m = λ test. let k = c.requires.0.lawful in primitive_5_10 c.args.c.m k.m_least k.m_most in
-    let log_lt : (test : c.loop-w.w < c.args.c.period) → (x : ℕ) → 2 ≤ x → x < 2 ^ c.args.c.m → get_or c.loop-w.tables x 0 < 2 ^ c.args.c.m - 1 = λ test x l u. filled_log_lt c.args.c.m (g test) c.requires.0.size_most c.args.c.t c.loop-w.tables c.loop-w.invariant.4 x (above x l) u in
-    let first_lt : (test : c.loop-w.w < c.args.c.period) → get_or c.loop-w.tables c.loop-w.w 0 < 2 ^ c.args.c.m - 1 = λ test. (log_lt test) c.loop-w.w c.loop-w.invariant.0 (next-lt _ _ (h test)).0 in
-    let second_lt : (test : c.loop-w.w < c.args.c.period) → get_or c.loop-w.tables (c.loop-w.w + 1) 0 < 2 ^ c.args.c.m - 1 = λ test. (log_lt test) (c.loop-w.w + 1) (after _ c.loop-w.invariant.0) (next-lt _ _ (h test)).1 in
+    let h : (test : c.loop-w.w < c.args.c.period) → c.loop-w.w < 2 ^ c.args.c.m - 1 =
+    λ test. subst (λ (p : ℕ). c.loop-w.w < p) c.requires.0.is_period test in
+    let g : (test : c.loop-w.w < c.args.c.period) → Primitive c.args.c.m =
+    λ test. let k = c.requires.0.lawful in primitive_5_10 c.args.c.m k.m_least k.m_most in
+    let log_lt : (test : c.loop-w.w < c.args.c.period) → (x : ℕ) → 2 ≤ x → x < 2 ^ c.args.c.m → get_or c.loop-w.tables x 0 < 2 ^ c.args.c.m - 1 =
+    λ test x l u. filled_log_lt c.args.c.m (g test) c.requires.0.size_most c.args.c.t c.loop-w.tables c.loop-w.invariant.4 x (above x l) u in
+    let first_lt : (test : c.loop-w.w < c.args.c.period) → get_or c.loop-w.tables c.loop-w.w 0 < 2 ^ c.args.c.m - 1 =
+    λ test. (log_lt test) c.loop-w.w c.loop-w.invariant.0 (next-lt _ _ (h test)).0 in
+    let second_lt : (test : c.loop-w.w < c.args.c.period) → get_or c.loop-w.tables (c.loop-w.w + 1) 0 < 2 ^ c.args.c.m - 1 =
+    λ test. (log_lt test) (c.loop-w.w + 1) (after _ c.loop-w.invariant.0) (next-lt _ _ (h test)).1 in
     let k = c.requires.0 in
     let h = c.loop-w-test.true in
     high_fits _ _ _ k.size_most (first_lt h) (second_lt h)
 
 pub overflow_add-tables : goal.overflow_add-tables
 overflow_add-tables c =
-    let h : (test : c.loop-w.w < c.args.c.period) → c.loop-w.w < 2 ^ c.args.c.m - 1 = λ test. subst (λ (p : ℕ). c.loop-w.w < p) c.requires.0.is_period test in
-    let g : (test : c.loop-w.w < c.args.c.period) → Primitive c.args.c.m = λ test. let k = c.requires.0.lawful in primitive_5_10 c.args.c.m k.m_least k.m_most in
-    let log_lt : (test : c.loop-w.w < c.args.c.period) → (x : ℕ) → 2 ≤ x → x < 2 ^ c.args.c.m → get_or c.loop-w.tables x 0 < 2 ^ c.args.c.m - 1 = λ test x l u. filled_log_lt c.args.c.m (g test) c.requires.0.size_most c.args.c.t c.loop-w.tables c.loop-w.invariant.4 x (above x l) u in
-    let first_lt : (test : c.loop-w.w < c.args.c.period) → get_or c.loop-w.tables c.loop-w.w 0 < 2 ^ c.args.c.m - 1 = λ test. (log_lt test) c.loop-w.w c.loop-w.invariant.0 (next-lt _ _ (h test)).0 in
-    let second_lt : (test : c.loop-w.w < c.args.c.period) → get_or c.loop-w.tables (c.loop-w.w + 1) 0 < 2 ^ c.args.c.m - 1 = λ test. (log_lt test) (c.loop-w.w + 1) (after _ c.loop-w.invariant.0) (next-lt _ _ (h test)).1 in
+    let h : (test : c.loop-w.w < c.args.c.period) → c.loop-w.w < 2 ^ c.args.c.m - 1 =
+    λ test. subst (λ (p : ℕ). c.loop-w.w < p) c.requires.0.is_period test in
+    let g : (test : c.loop-w.w < c.args.c.period) → Primitive c.args.c.m =
+    λ test. let k = c.requires.0.lawful in primitive_5_10 c.args.c.m k.m_least k.m_most in
+    let log_lt : (test : c.loop-w.w < c.args.c.period) → (x : ℕ) → 2 ≤ x → x < 2 ^ c.args.c.m → get_or c.loop-w.tables x 0 < 2 ^ c.args.c.m - 1 =
+    λ test x l u. filled_log_lt c.args.c.m (g test) c.requires.0.size_most c.args.c.t c.loop-w.tables c.loop-w.invariant.4 x (above x l) u in
+    let first_lt : (test : c.loop-w.w < c.args.c.period) → get_or c.loop-w.tables c.loop-w.w 0 < 2 ^ c.args.c.m - 1 =
+    λ test. (log_lt test) c.loop-w.w c.loop-w.invariant.0 (next-lt _ _ (h test)).0 in
+    let second_lt : (test : c.loop-w.w < c.args.c.period) → get_or c.loop-w.tables (c.loop-w.w + 1) 0 < 2 ^ c.args.c.m - 1 =
+    λ test. (log_lt test) (c.loop-w.w + 1) (after _ c.loop-w.invariant.0) (next-lt _ _ (h test)).1 in
     let k = c.requires.0 in
     let h = c.loop-w-test.true in
     packed-fits _ _ _ k.size_most (first_lt h) (second_lt h)
 
 pub overflow_add-tables-in-loop-w : goal.overflow_add-tables-in-loop-w
 overflow_add-tables-in-loop-w c =
-    let h : (test : c.loop-w.w < c.args.c.period) → c.loop-w.w < 2 ^ c.args.c.m - 1 = λ test. subst (λ (p : ℕ). c.loop-w.w < p) c.requires.0.is_period test in
-    let g : (test : c.loop-w.w < c.args.c.period) → Primitive c.args.c.m = λ test. let k = c.requires.0.lawful in primitive_5_10 c.args.c.m k.m_least k.m_most in
-    let log_lt : (test : c.loop-w.w < c.args.c.period) → (x : ℕ) → 2 ≤ x → x < 2 ^ c.args.c.m → get_or c.loop-w.tables x 0 < 2 ^ c.args.c.m - 1 = λ test x l u. filled_log_lt c.args.c.m (g test) c.requires.0.size_most c.args.c.t c.loop-w.tables c.loop-w.invariant.4 x (above x l) u in
-    let first_lt : (test : c.loop-w.w < c.args.c.period) → get_or c.loop-w.tables c.loop-w.w 0 < 2 ^ c.args.c.m - 1 = λ test. (log_lt test) c.loop-w.w c.loop-w.invariant.0 (next-lt _ _ (h test)).0 in
-    let second_lt : (test : c.loop-w.w < c.args.c.period) → get_or c.loop-w.tables (c.loop-w.w + 1) 0 < 2 ^ c.args.c.m - 1 = λ test. (log_lt test) (c.loop-w.w + 1) (after _ c.loop-w.invariant.0) (next-lt _ _ (h test)).1 in
+    let h : (test : c.loop-w.w < c.args.c.period) → c.loop-w.w < 2 ^ c.args.c.m - 1 =
+    λ test. subst (λ (p : ℕ). c.loop-w.w < p) c.requires.0.is_period test in
+    let g : (test : c.loop-w.w < c.args.c.period) → Primitive c.args.c.m =
+    λ test. let k = c.requires.0.lawful in primitive_5_10 c.args.c.m k.m_least k.m_most in
+    let log_lt : (test : c.loop-w.w < c.args.c.period) → (x : ℕ) → 2 ≤ x → x < 2 ^ c.args.c.m → get_or c.loop-w.tables x 0 < 2 ^ c.args.c.m - 1 =
+    λ test x l u. filled_log_lt c.args.c.m (g test) c.requires.0.size_most c.args.c.t c.loop-w.tables c.loop-w.invariant.4 x (above x l) u in
+    let first_lt : (test : c.loop-w.w < c.args.c.period) → get_or c.loop-w.tables c.loop-w.w 0 < 2 ^ c.args.c.m - 1 =
+    λ test. (log_lt test) c.loop-w.w c.loop-w.invariant.0 (next-lt _ _ (h test)).0 in
+    let second_lt : (test : c.loop-w.w < c.args.c.period) → get_or c.loop-w.tables (c.loop-w.w + 1) 0 < 2 ^ c.args.c.m - 1 =
+    λ test. (log_lt test) (c.loop-w.w + 1) (after _ c.loop-w.invariant.0) (next-lt _ _ (h test)).1 in
     let sum_lt : c.reduced-e.result < 2 ^ c.args.c.m - 1 = let k = c.requires.0 in
     let h = c.loop-w-test.true in
     let lt = both-lt _ _ _ k.size_most (first_lt h) (second_lt h) _ k.is_period in
@@ -108,11 +128,16 @@ overflow_add-tables-in-loop-w c =
 
 pub offset_bounds-tables-c : goal.offset_bounds-tables-c
 offset_bounds-tables-c c =
-    let h : (test : c.loop-w.w < c.args.c.period) → c.loop-w.w < 2 ^ c.args.c.m - 1 = λ test. subst (λ (p : ℕ). c.loop-w.w < p) c.requires.0.is_period test in
-    let g : (test : c.loop-w.w < c.args.c.period) → Primitive c.args.c.m = λ test. let k = c.requires.0.lawful in primitive_5_10 c.args.c.m k.m_least k.m_most in
-    let log_lt : (test : c.loop-w.w < c.args.c.period) → (x : ℕ) → 2 ≤ x → x < 2 ^ c.args.c.m → get_or c.loop-w.tables x 0 < 2 ^ c.args.c.m - 1 = λ test x l u. filled_log_lt c.args.c.m (g test) c.requires.0.size_most c.args.c.t c.loop-w.tables c.loop-w.invariant.4 x (above x l) u in
-    let first_lt : (test : c.loop-w.w < c.args.c.period) → get_or c.loop-w.tables c.loop-w.w 0 < 2 ^ c.args.c.m - 1 = λ test. (log_lt test) c.loop-w.w c.loop-w.invariant.0 (next-lt _ _ (h test)).0 in
-    let second_lt : (test : c.loop-w.w < c.args.c.period) → get_or c.loop-w.tables (c.loop-w.w + 1) 0 < 2 ^ c.args.c.m - 1 = λ test. (log_lt test) (c.loop-w.w + 1) (after _ c.loop-w.invariant.0) (next-lt _ _ (h test)).1 in
+    let h : (test : c.loop-w.w < c.args.c.period) → c.loop-w.w < 2 ^ c.args.c.m - 1 =
+    λ test. subst (λ (p : ℕ). c.loop-w.w < p) c.requires.0.is_period test in
+    let g : (test : c.loop-w.w < c.args.c.period) → Primitive c.args.c.m =
+    λ test. let k = c.requires.0.lawful in primitive_5_10 c.args.c.m k.m_least k.m_most in
+    let log_lt : (test : c.loop-w.w < c.args.c.period) → (x : ℕ) → 2 ≤ x → x < 2 ^ c.args.c.m → get_or c.loop-w.tables x 0 < 2 ^ c.args.c.m - 1 =
+    λ test x l u. filled_log_lt c.args.c.m (g test) c.requires.0.size_most c.args.c.t c.loop-w.tables c.loop-w.invariant.4 x (above x l) u in
+    let first_lt : (test : c.loop-w.w < c.args.c.period) → get_or c.loop-w.tables c.loop-w.w 0 < 2 ^ c.args.c.m - 1 =
+    λ test. (log_lt test) c.loop-w.w c.loop-w.invariant.0 (next-lt _ _ (h test)).0 in
+    let second_lt : (test : c.loop-w.w < c.args.c.period) → get_or c.loop-w.tables (c.loop-w.w + 1) 0 < 2 ^ c.args.c.m - 1 =
+    λ test. (log_lt test) (c.loop-w.w + 1) (after _ c.loop-w.invariant.0) (next-lt _ _ (h test)).1 in
     let sum_lt : c.reduced-e.result < 2 ^ c.args.c.m - 1 = let k = c.requires.0 in
     let h = c.loop-w-test.true in
     let lt = both-lt _ _ _ k.size_most (first_lt h) (second_lt h) _ k.is_period in
@@ -124,11 +149,16 @@ offset_bounds-tables-c c =
 
 pub bounds-tables-c : goal.bounds-tables-c
 bounds-tables-c c =
-    let h : (test : c.loop-w.w < c.args.c.period) → c.loop-w.w < 2 ^ c.args.c.m - 1 = λ test. subst (λ (p : ℕ). c.loop-w.w < p) c.requires.0.is_period test in
-    let g : (test : c.loop-w.w < c.args.c.period) → Primitive c.args.c.m = λ test. let k = c.requires.0.lawful in primitive_5_10 c.args.c.m k.m_least k.m_most in
-    let log_lt : (test : c.loop-w.w < c.args.c.period) → (x : ℕ) → 2 ≤ x → x < 2 ^ c.args.c.m → get_or c.loop-w.tables x 0 < 2 ^ c.args.c.m - 1 = λ test x l u. filled_log_lt c.args.c.m (g test) c.requires.0.size_most c.args.c.t c.loop-w.tables c.loop-w.invariant.4 x (above x l) u in
-    let first_lt : (test : c.loop-w.w < c.args.c.period) → get_or c.loop-w.tables c.loop-w.w 0 < 2 ^ c.args.c.m - 1 = λ test. (log_lt test) c.loop-w.w c.loop-w.invariant.0 (next-lt _ _ (h test)).0 in
-    let second_lt : (test : c.loop-w.w < c.args.c.period) → get_or c.loop-w.tables (c.loop-w.w + 1) 0 < 2 ^ c.args.c.m - 1 = λ test. (log_lt test) (c.loop-w.w + 1) (after _ c.loop-w.invariant.0) (next-lt _ _ (h test)).1 in
+    let h : (test : c.loop-w.w < c.args.c.period) → c.loop-w.w < 2 ^ c.args.c.m - 1 =
+    λ test. subst (λ (p : ℕ). c.loop-w.w < p) c.requires.0.is_period test in
+    let g : (test : c.loop-w.w < c.args.c.period) → Primitive c.args.c.m =
+    λ test. let k = c.requires.0.lawful in primitive_5_10 c.args.c.m k.m_least k.m_most in
+    let log_lt : (test : c.loop-w.w < c.args.c.period) → (x : ℕ) → 2 ≤ x → x < 2 ^ c.args.c.m → get_or c.loop-w.tables x 0 < 2 ^ c.args.c.m - 1 =
+    λ test x l u. filled_log_lt c.args.c.m (g test) c.requires.0.size_most c.args.c.t c.loop-w.tables c.loop-w.invariant.4 x (above x l) u in
+    let first_lt : (test : c.loop-w.w < c.args.c.period) → get_or c.loop-w.tables c.loop-w.w 0 < 2 ^ c.args.c.m - 1 =
+    λ test. (log_lt test) c.loop-w.w c.loop-w.invariant.0 (next-lt _ _ (h test)).0 in
+    let second_lt : (test : c.loop-w.w < c.args.c.period) → get_or c.loop-w.tables (c.loop-w.w + 1) 0 < 2 ^ c.args.c.m - 1 =
+    λ test. (log_lt test) (c.loop-w.w + 1) (after _ c.loop-w.invariant.0) (next-lt _ _ (h test)).1 in
     let sum_lt : c.reduced-e.result < 2 ^ c.args.c.m - 1 = let k = c.requires.0 in
     let h = c.loop-w-test.true in
     let lt = both-lt _ _ _ k.size_most (first_lt h) (second_lt h) _ k.is_period in
@@ -139,13 +169,16 @@ bounds-tables-c c =
 
 pub loop-w-smaller : goal.loop-w-smaller
 loop-w-smaller c =
-    let h : (test : c.loop-w.w < c.args.c.period) → c.loop-w.w < 2 ^ c.args.c.m - 1 = λ test. subst (λ (p : ℕ). c.loop-w.w < p) c.requires.0.is_period test in
+    let h : (test : c.loop-w.w < c.args.c.period) → c.loop-w.w < 2 ^ c.args.c.m - 1 =
+    λ test. subst (λ (p : ℕ). c.loop-w.w < p) c.requires.0.is_period test in
     passes _ _ (h c.loop-w-test.true)
 
 pub loop-w-preserved : goal.loop-w-preserved
 loop-w-preserved c =
-    let h : (test : c.loop-w.w < c.args.c.period) → c.loop-w.w < 2 ^ c.args.c.m - 1 = λ test. subst (λ (p : ℕ). c.loop-w.w < p) c.requires.0.is_period test in
-    let g : (test : c.loop-w.w < c.args.c.period) → Primitive c.args.c.m = λ test. let k = c.requires.0.lawful in primitive_5_10 c.args.c.m k.m_least k.m_most in
+    let h : (test : c.loop-w.w < c.args.c.period) → c.loop-w.w < 2 ^ c.args.c.m - 1 =
+    λ test. subst (λ (p : ℕ). c.loop-w.w < p) c.requires.0.is_period test in
+    let g : (test : c.loop-w.w < c.args.c.period) → Primitive c.args.c.m =
+    λ test. let k = c.requires.0.lawful in primitive_5_10 c.args.c.m k.m_least k.m_most in
     let k = c.args.c in
     let l = c.loop-w in
     let t = c.loop-w-test.true in

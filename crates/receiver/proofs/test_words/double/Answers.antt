@@ -25,7 +25,8 @@ bounds-tests-i c = omega arith
 pub overflow_add-tests : goal.overflow_add-tests
 overflow_add-tests c =
     let l = c.loop-i in
-    let small : get_or l.tests l.i 0 < 576460752303423488 = omega (arith, l.invariant.2 l.i (omega arith), c.requires.size_in_bounds.1 l.i (omega arith)) in
+    let small : get_or l.tests l.i 0 < 576460752303423488 =
+    omega (arith, l.invariant.2 l.i (omega arith), c.requires.size_in_bounds.1 l.i (omega arith)) in
     let v = c.powers_of-v.result in
     let sum = xor_lt 59 (get_or l.tests l.i 0) v small (omega arith) in
     omega (arith, sum, c.flip_of-w.ensures)

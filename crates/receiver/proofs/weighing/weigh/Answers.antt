@@ -39,7 +39,8 @@ flipped-requires c = record { ready = c.requires.ready; z_value = c.z_at-z.ensur
 
 pub overflow_sub-q : goal.overflow_sub-q
 overflow_sub-q c =
-    let back : c.flipped.result ≡ true → (1 ≤ c.loop-a.q) × (c.z_at-z.result ≤ c.loop-a.sum) × Turned c.args.s.now (take (c.loop-a.a + 1) (take c.args.f.count c.args.f.at)) c.args.p c.args.j (c.loop-a.q - 1) (c.loop-a.sum - c.z_at-z.result) = λ h. let a = c.args in
+    let back : c.flipped.result ≡ true → (1 ≤ c.loop-a.q) × (c.z_at-z.result ≤ c.loop-a.sum) × Turned c.args.s.now (take (c.loop-a.a + 1) (take c.args.f.count c.args.f.at)) c.args.p c.args.j (c.loop-a.q - 1) (c.loop-a.sum - c.z_at-z.result) =
+    λ h. let a = c.args in
     let l = c.loop-a in
     let x = c.entry_of-x.ensures in
     back_at a.s.now a.keys.at a.p c.requires.ready a.j a.f.at a.f.count l.a l.q l.sum
@@ -49,7 +50,8 @@ overflow_sub-q c =
 
 pub overflow_sub-sum : goal.overflow_sub-sum
 overflow_sub-sum c =
-    let back : c.flipped.result ≡ true → (1 ≤ c.loop-a.q) × (c.z_at-z.result ≤ c.loop-a.sum) × Turned c.args.s.now (take (c.loop-a.a + 1) (take c.args.f.count c.args.f.at)) c.args.p c.args.j (c.loop-a.q - 1) (c.loop-a.sum - c.z_at-z.result) = λ h. let a = c.args in
+    let back : c.flipped.result ≡ true → (1 ≤ c.loop-a.q) × (c.z_at-z.result ≤ c.loop-a.sum) × Turned c.args.s.now (take (c.loop-a.a + 1) (take c.args.f.count c.args.f.at)) c.args.p c.args.j (c.loop-a.q - 1) (c.loop-a.sum - c.z_at-z.result) =
+    λ h. let a = c.args in
     let l = c.loop-a in
     let x = c.entry_of-x.ensures in
     back_at a.s.now a.keys.at a.p c.requires.ready a.j a.f.at a.f.count l.a l.q l.sum
@@ -75,13 +77,15 @@ overflow_add-sum c =
 
 pub loop-a-preserved : goal.loop-a-preserved
 loop-a-preserved c =
-    let back : c.flipped.result ≡ true → (1 ≤ c.loop-a.q) × (c.z_at-z.result ≤ c.loop-a.sum) × Turned c.args.s.now (take (c.loop-a.a + 1) (take c.args.f.count c.args.f.at)) c.args.p c.args.j (c.loop-a.q - 1) (c.loop-a.sum - c.z_at-z.result) = λ h. let a = c.args in
+    let back : c.flipped.result ≡ true → (1 ≤ c.loop-a.q) × (c.z_at-z.result ≤ c.loop-a.sum) × Turned c.args.s.now (take (c.loop-a.a + 1) (take c.args.f.count c.args.f.at)) c.args.p c.args.j (c.loop-a.q - 1) (c.loop-a.sum - c.z_at-z.result) =
+    λ h. let a = c.args in
     let l = c.loop-a in
     let x = c.entry_of-x.ensures in
     back_at a.s.now a.keys.at a.p c.requires.ready a.j a.f.at a.f.count l.a l.q l.sum
     c.z_at-z.result c.requires.count_bound.2 (omega arith) (omega arith) (rw x at c.z_at-z.ensures.0) l.invariant.1
     (rw x at (sym h ∙ c.flipped.ensures)) in
-    let out : c.flipped.result ≡ false → Turned c.args.s.now (take (c.loop-a.a + 1) (take c.args.f.count c.args.f.at)) c.args.p c.args.j (c.loop-a.q + 1) (c.loop-a.sum + c.z_at-z.result) = λ h. let a = c.args in
+    let out : c.flipped.result ≡ false → Turned c.args.s.now (take (c.loop-a.a + 1) (take c.args.f.count c.args.f.at)) c.args.p c.args.j (c.loop-a.q + 1) (c.loop-a.sum + c.z_at-z.result) =
+    λ h. let a = c.args in
     let l = c.loop-a in
     let x = c.entry_of-x.ensures in
     out_at a.s.now a.keys.at a.p c.requires.ready a.j a.f.at a.f.count l.a l.q l.sum
