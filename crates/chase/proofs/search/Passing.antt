@@ -62,11 +62,11 @@ module _ (code : Code) (is_code : Lawful code) (p : ℕ) (ss : List ℕ) (long :
   module _ (b : Candidate) (backed : Backed code ss b) (far : b.L < k.L) where
     -- farther than another, it is not sure, ..
     pub far_unsure : k.A < k.L
-    far_unsure = unsure_beside b backed far
+    far_unsure = unsure_beside b backed (omega (arith, far))
 
     -- .. and the search goes on with the best so far
     pub step_far : (n : ℕ) (best : Option Candidate) → j < n → best ≡ some b
         → search_from code p ss (n - j) j best ≡ search_from code p ss (n - (j + 1)) (j + 1) best
     step_far n best more e =
-        step_on code p ss n j best more k given (unsure_beside b backed far)
+        step_on code p ss n j best more k given (unsure_beside b backed (omega (arith, far)))
         ∙ ap (search_from code p ss (n - (j + 1)) (j + 1)) (ap (λ (o : Option Candidate). better o k) e ∙ better_kept b k (omega arith) ∙ sym e)
