@@ -13,13 +13,15 @@ use Rattle.bch.proofs.codes.Entries.{below_take, below_drop}
 use Rattle.chase.specs.Soft.{soft_stage}
 use Rattle.chase.specs.Word.{Symbols}
 use Rattle.take_format.specs.Batch.{message, mark_byte, counted_of}
+use Rattle.take_format.proofs.checks.RefusalLaws.{WordsChecked}
 use Rattle.take_format.proofs.takes.Batches.{words_small, Few, few_more, few_capped, done_start, done_more, done_end}
 use Rattle.take_format.proofs.takes.PromiseLaws.{message_long, tries_most}
-use Rattle.refusal.specs.Named.{code_of}
+use Rattle.refusal.specs.Named.{code_of, Made}
+use Rattle.refusal.specs.declared.Code as struct
 use Rattle.receiver.specs.Answer.{totals_told}
+use Rattle.receiver.specs.Tables.{Filled}
 use mir.Syntax.{w64}
 use mir.Val.{Fits}
-use Rattle.receiver.proofs.Places.{falls}
 use Rattle.receiver.proofs.all_words.decode_all.Goals as goal
 
 room : (w W n : ℕ) → w < W → w * n + n ≤ W * n
@@ -39,25 +41,13 @@ same-part w n at size xs e f =
 more : (w n at size : ℕ) → size ≡ n → at ≡ w * n → at + size ≡ (w + 1) * n
 more w n at size e f = omega (arith, e, f, ap (λ (x : ℕ). x * n) (add-one w), suc-mul w n)
 
--- ---- of numbers: a part of n from `at` on, where word w's begins at x and is N long
-
-ends : (at n x N L : ℕ) → at ≡ x → n ≡ N → x + N ≤ L → at + n ≤ L
-ends at n x N L e f h = omega arith
+-- ---- of numbers: a part of n from `at` on
 
 end_fits : (at n L : ℕ) → at + n ≤ L → L ≤ 67042305 → Fits w64 (at + n)
 end_fits at n L h most = record { fits = omega arith }
 
-starts : (at n : ℕ) → at ≤ at + n
-starts at n = omega arith
-
-part-size : (at n : ℕ) → at + n - at ≡ n
-part-size at n = omega arith
-
 part_long : (at n L : ℕ) (xs : List ℕ) → length xs ≡ L → at + n ≤ L → length (take (at + n - at) (drop at xs)) ≡ n
 part_long at n L xs e h = omega (arith, length-take (at + n - at) (drop at xs), length-drop at xs)
-
-word_fits : (w W : ℕ) → w < W → W ≤ 65535 → Fits w64 (w + 1)
-word_fits w W h most = record { fits = omega arith }
 
 words-few : (w W : ℕ) → w < W → W ≤ 65535 → w + 1 ≤ 65536
 words-few w W h most = omega arith
@@ -77,271 +67,140 @@ all_done w n W e h most = omega arith
 next_word : (w W : ℕ) → w < W → w + 1 ≤ W
 next_word w W h = omega arith
 
--- at the loop's test, where word w is there
+-- a word at the loop's test is one of the W, as many as there are marks
+word-here : {w m W : ℕ} → m ≡ W → w < m → w < W
+word-here e h = omega arith
+
+-- the record's k is the message length
+is-long : {c : struct.Code} {k : ℕ} → Made c → k ≡ c.k → k ≡ message_length (code_of c)
+is-long made e = omega (arith, e, made.is_n)
+
+-- ---- where word w of W stands: its n symbols from `at` on, its message of k from `to` on
+
+module _ {c : struct.Code} {p w W : ℕ} {ts xs ms ks : List ℕ} (filled : Filled c ts × (W ≤ 65535)) (ok : WordsChecked (code_of c) p W xs ms ks)
+    (here : w < W) where
+  -- its symbols are inside, ..
+  symbols-end : {at n : ℕ} → at ≡ w * c.n → n ≡ c.n → at + n ≤ length xs
+  symbols-end e f = omega (arith, e, f, ok.long, room w W c.n here)
+
+  -- .. so that their end fits
+  symbols-fit : {at n : ℕ} → at ≡ w * c.n → n ≡ c.n → Fits w64 (at + n)
+  symbols-fit e f =
+      let small = words_small W c.n filled.1 (word_short (code_of c) filled.0.fielded.made.lawful) in
+      end_fits _ _ _ (symbols-end e f) (omega (arith, ok.long, small))
+
+  -- its message is inside, ..
+  message-end : {to k : ℕ} → to ≡ w * message_length (code_of c) → k ≡ c.k → to + k ≤ length ms
+  message-end e f = omega (arith, e, is-long filled.0.fielded.made f, ok.messages_room, room w W (message_length (code_of c)) here)
+
+  -- .. so that its end fits
+  message-fit : {to k : ℕ} → to ≡ w * message_length (code_of c) → k ≡ c.k → Fits w64 (to + k)
+  message-fit e f =
+      let short : message_length (code_of c) ≤ 1023 = omega (arith, word_short (code_of c) filled.0.fielded.made.lawful) in
+      end_fits _ _ _ (message-end e f) (omega (arith, ok.messages_room, words_small W (message_length (code_of c)) filled.1 short))
+
+  -- the part read is n symbols
+  word : {at n : ℕ} → at ≡ w * c.n → n ≡ c.n → (length (take (at + n - at) (drop at xs)) ≡ c.n) × Symbols (take (at + n - at) (drop at xs))
+  word {at} {n} e f =
+      (part_long at n _ xs refl (symbols-end e f) ∙ f, below_take 32 (at + n - at) (drop at xs) (below_drop 32 at xs ok.are_symbols))
+
+-- ---- at the loop's test, where word w is there
 
 pub loop-w-init : goal.loop-w-init
 loop-w-init c =
     let code : Code = code_of c.args.c in
-    let long : ℕ = message_length (code) in
     let a = c.args in (
       omega arith,
       sym (zero-mul a.c.n),
-      sym (zero-mul (long)),
+      sym (zero-mul (message_length code)),
       refl,
       refl,
-      done_start (code) a.p a.symbols.now a.messages.now a.marks.now,
+      done_start code a.p a.symbols.now a.messages.now a.marks.now,
       record { words = omega arith; sures = omega arith; fairs = omega arith; losts = omega arith; tries = omega arith },
     )
 
 pub overflow_add-at : goal.overflow_add-at
 overflow_add-at c =
-    let code : Code = code_of c.args.c in
-    let long : ℕ = message_length (code) in
-    let words : ℕ = length c.args.marks.now in
-    let xs : List ℕ = c.args.symbols.now in
-    let inside : (w : ℕ) → w < (words) → (w * (code).n + (code).n ≤ length (xs)) × (length (xs) ≤ 67042305) × (w * (long) + (long) ≤ length c.args.messages.now) × (length c.args.messages.now ≤ 67042305) =
-    λ w h. let ok = c.requires.words_checked in
-    let W = c.requires.filled.1 in
-    let n = word_short (code) c.requires.filled.0.fielded.made.lawful in
-    let k : (long) ≤ 1023 = omega (arith, n) in (
-      omega (arith, ok.long, room w (words) (code).n h),
-      omega (arith, ok.long, words_small (words) (code).n W n),
-      omega (arith, ok.messages_room, room w (words) (long) h),
-      omega (arith, ok.messages_room, words_small (words) (long) W k),
-    ) in
-    let word-here : c.loop-w.w < length c.args.marks.now = subst (λ (n : ℕ). c.loop-w.w < n) c.loop-w.invariant.4 c.loop-w-test.true in
-    let symbols-end : c.loop-w.at + c.length-n.result ≤ length c.args.symbols.now =
-    ends _ _ _ _ _ c.loop-w.invariant.1 c.length-n.ensures (inside c.loop-w.w (word-here)).0 in
-    let symbols-fit : Fits w64 (c.loop-w.at + c.length-n.result) = end_fits _ _ _ (symbols-end) (inside c.loop-w.w (word-here)).1 in
-    symbols-fit
-
-pub slice_bounds-decode_word-count : goal.slice_bounds-decode_word-count
-slice_bounds-decode_word-count c = starts _ _
-
-pub slice_bounds-decode_word-start : goal.slice_bounds-decode_word-start
-slice_bounds-decode_word-start c = starts _ _
+    let l = c.loop-w in
+    symbols-fit c.requires.filled c.requires.words_checked (word-here l.invariant.4 c.loop-w-test.true) l.invariant.1 c.length-n.ensures
 
 pub slice_bounds-decode_word-end : goal.slice_bounds-decode_word-end
 slice_bounds-decode_word-end c =
-    let code : Code = code_of c.args.c in
-    let long : ℕ = message_length (code) in
-    let words : ℕ = length c.args.marks.now in
-    let xs : List ℕ = c.args.symbols.now in
-    let inside : (w : ℕ) → w < (words) → (w * (code).n + (code).n ≤ length (xs)) × (length (xs) ≤ 67042305) × (w * (long) + (long) ≤ length c.args.messages.now) × (length c.args.messages.now ≤ 67042305) =
-    λ w h. let ok = c.requires.words_checked in
-    let W = c.requires.filled.1 in
-    let n = word_short (code) c.requires.filled.0.fielded.made.lawful in
-    let k : (long) ≤ 1023 = omega (arith, n) in (
-      omega (arith, ok.long, room w (words) (code).n h),
-      omega (arith, ok.long, words_small (words) (code).n W n),
-      omega (arith, ok.messages_room, room w (words) (long) h),
-      omega (arith, ok.messages_room, words_small (words) (long) W k),
-    ) in
-    let word-here : c.loop-w.w < length c.args.marks.now = subst (λ (n : ℕ). c.loop-w.w < n) c.loop-w.invariant.4 c.loop-w-test.true in
-    let symbols-end : c.loop-w.at + c.length-n.result ≤ length c.args.symbols.now =
-    ends _ _ _ _ _ c.loop-w.invariant.1 c.length-n.ensures (inside c.loop-w.w (word-here)).0 in
-    symbols-end
+    let l = c.loop-w in
+    symbols-end c.requires.filled c.requires.words_checked (word-here l.invariant.4 c.loop-w-test.true) l.invariant.1 c.length-n.ensures
 
 pub overflow_add-to : goal.overflow_add-to
 overflow_add-to c =
-    let code : Code = code_of c.args.c in
-    let long : ℕ = message_length (code) in
-    let words : ℕ = length c.args.marks.now in
-    let xs : List ℕ = c.args.symbols.now in
-    let inside : (w : ℕ) → w < (words) → (w * (code).n + (code).n ≤ length (xs)) × (length (xs) ≤ 67042305) × (w * (long) + (long) ≤ length c.args.messages.now) × (length c.args.messages.now ≤ 67042305) =
-    λ w h. let ok = c.requires.words_checked in
-    let W = c.requires.filled.1 in
-    let n = word_short (code) c.requires.filled.0.fielded.made.lawful in
-    let k : (long) ≤ 1023 = omega (arith, n) in (
-      omega (arith, ok.long, room w (words) (code).n h),
-      omega (arith, ok.long, words_small (words) (code).n W n),
-      omega (arith, ok.messages_room, room w (words) (long) h),
-      omega (arith, ok.messages_room, words_small (words) (long) W k),
-    ) in
-    let word-here : c.loop-w.w < length c.args.marks.now = subst (λ (n : ℕ). c.loop-w.w < n) c.loop-w.invariant.4 c.loop-w-test.true in
-    let is-long : (k : ℕ) → k ≡ c.args.c.k → k ≡ (long) = λ k e. omega (arith, e, c.requires.filled.0.fielded.made.is_n) in
-    let messages-end : c.loop-w.to + c.message_length-k.result ≤ length c.args.messages.now = let k = is-long _ c.message_length-k.ensures in
-    ends _ _ _ _ _ c.loop-w.invariant.2 k (inside c.loop-w.w (word-here)).2 in
-    let messages-fit : Fits w64 (c.loop-w.to + c.message_length-k.result) = end_fits _ _ _ (messages-end) (inside c.loop-w.w (word-here)).3 in
-    messages-fit
-
-pub slice_bounds-decode_word-count-in-loop-w : goal.slice_bounds-decode_word-count-in-loop-w
-slice_bounds-decode_word-count-in-loop-w c = starts _ _
-
-pub slice_bounds-decode_word-start-in-loop-w : goal.slice_bounds-decode_word-start-in-loop-w
-slice_bounds-decode_word-start-in-loop-w c = starts _ _
+    let l = c.loop-w in
+    message-fit c.requires.filled c.requires.words_checked (word-here l.invariant.4 c.loop-w-test.true) l.invariant.2 c.message_length-k.ensures
 
 pub slice_bounds-decode_word-end-in-loop-w : goal.slice_bounds-decode_word-end-in-loop-w
 slice_bounds-decode_word-end-in-loop-w c =
-    let code : Code = code_of c.args.c in
-    let long : ℕ = message_length (code) in
-    let is-long : (k : ℕ) → k ≡ c.args.c.k → k ≡ (long) = λ k e. omega (arith, e, c.requires.filled.0.fielded.made.is_n) in
-    let words : ℕ = length c.args.marks.now in
-    let xs : List ℕ = c.args.symbols.now in
-    let inside : (w : ℕ) → w < (words) → (w * (code).n + (code).n ≤ length (xs)) × (length (xs) ≤ 67042305) × (w * (long) + (long) ≤ length c.args.messages.now) × (length c.args.messages.now ≤ 67042305) =
-    λ w h. let ok = c.requires.words_checked in
-    let W = c.requires.filled.1 in
-    let n = word_short (code) c.requires.filled.0.fielded.made.lawful in
-    let k : (long) ≤ 1023 = omega (arith, n) in (
-      omega (arith, ok.long, room w (words) (code).n h),
-      omega (arith, ok.long, words_small (words) (code).n W n),
-      omega (arith, ok.messages_room, room w (words) (long) h),
-      omega (arith, ok.messages_room, words_small (words) (long) W k),
-    ) in
-    let word-here : c.loop-w.w < length c.args.marks.now = subst (λ (n : ℕ). c.loop-w.w < n) c.loop-w.invariant.4 c.loop-w-test.true in
-    let messages-end : c.loop-w.to + c.message_length-k.result ≤ length c.args.messages.now = let k = is-long _ c.message_length-k.ensures in
-    ends _ _ _ _ _ c.loop-w.invariant.2 k (inside c.loop-w.w (word-here)).2 in
-    subst (λ (n : ℕ). c.loop-w.to + c.message_length-k.result ≤ n) (sym c.loop-w.invariant.3) (messages-end)
+    let l = c.loop-w in
+    rw l.invariant.3
+    (message-end c.requires.filled c.requires.words_checked (word-here l.invariant.4 c.loop-w-test.true) l.invariant.2 c.message_length-k.ensures)
 
 pub decode_word-o-requires : goal.decode_word-o-requires
 decode_word-o-requires c =
-    let code : Code = code_of c.args.c in
-    let words : ℕ = length c.args.marks.now in
-    let xs : List ℕ = c.args.symbols.now in
-    let long : ℕ = message_length (code) in
-    let inside : (w : ℕ) → w < (words) → (w * (code).n + (code).n ≤ length (xs)) × (length (xs) ≤ 67042305) × (w * (long) + (long) ≤ length c.args.messages.now) × (length c.args.messages.now ≤ 67042305) =
-    λ w h. let ok = c.requires.words_checked in
-    let W = c.requires.filled.1 in
-    let n = word_short (code) c.requires.filled.0.fielded.made.lawful in
-    let k : (long) ≤ 1023 = omega (arith, n) in (
-      omega (arith, ok.long, room w (words) (code).n h),
-      omega (arith, ok.long, words_small (words) (code).n W n),
-      omega (arith, ok.messages_room, room w (words) (long) h),
-      omega (arith, ok.messages_room, words_small (words) (long) W k),
-    ) in
-    let word_long : (w at n : ℕ) → w < (words) → n ≡ (code).n → at ≡ w * (code).n → length (take (at + n - at) (drop at (xs))) ≡ (code).n =
-    λ w at n h e f. omega (arith, e, f, ((inside) w h).0, length-take (at + n - at) (drop at (xs)), length-drop at (xs)) in
-    let word_symbols_lem : (at n : ℕ) → Symbols (take n (drop at (xs))) =
-    λ at n. below_take 32 n (drop at (xs)) (below_drop 32 at (xs) c.requires.words_checked.are_symbols) in
-    let word-here : c.loop-w.w < length c.args.marks.now = subst (λ (n : ℕ). c.loop-w.w < n) c.loop-w.invariant.4 c.loop-w-test.true in
-    let is-long : (k : ℕ) → k ≡ c.args.c.k → k ≡ (long) = λ k e. omega (arith, e, c.requires.filled.0.fielded.made.is_n) in
-    let messages-end : c.loop-w.to + c.message_length-k.result ≤ length c.args.messages.now = let k = is-long _ c.message_length-k.ensures in
-    ends _ _ _ _ _ c.loop-w.invariant.2 k (inside c.loop-w.w (word-here)).2 in
     let l = c.loop-w in
-    let n = c.length-n in
     let k = c.message_length-k in
-    let full = word_long l.w l.at n.result (word-here) n.ensures l.invariant.1 in (
-      c.requires.filled.0,
-      c.requires.words_checked.depth,
-      full,
-      word_symbols_lem l.at (l.at + n.result - l.at),
-      part_long l.to k.result _ l.messages l.invariant.3 (messages-end) ∙ k.ensures,
+    let filled = c.requires.filled in
+    let ok = c.requires.words_checked in
+    let here = word-here l.invariant.4 c.loop-w-test.true in
+    let part = word filled ok here l.invariant.1 c.length-n.ensures in (
+      filled.0,
+      ok.depth,
+      part.0,
+      part.1,
+      part_long l.to k.result _ l.messages l.invariant.3 (message-end filled ok here l.invariant.2 k.ensures) ∙ k.ensures,
     )
-
-pub bounds-marks-w : goal.bounds-marks-w
-bounds-marks-w c = c.loop-w-test.true
 
 pub overflow_add-at-in-loop-w : goal.overflow_add-at-in-loop-w
 overflow_add-at-in-loop-w c =
-    let code : Code = code_of c.args.c in
-    let long : ℕ = message_length (code) in
-    let words : ℕ = length c.args.marks.now in
-    let xs : List ℕ = c.args.symbols.now in
-    let inside : (w : ℕ) → w < (words) → (w * (code).n + (code).n ≤ length (xs)) × (length (xs) ≤ 67042305) × (w * (long) + (long) ≤ length c.args.messages.now) × (length c.args.messages.now ≤ 67042305) =
-    λ w h. let ok = c.requires.words_checked in
-    let W = c.requires.filled.1 in
-    let n = word_short (code) c.requires.filled.0.fielded.made.lawful in
-    let k : (long) ≤ 1023 = omega (arith, n) in (
-      omega (arith, ok.long, room w (words) (code).n h),
-      omega (arith, ok.long, words_small (words) (code).n W n),
-      omega (arith, ok.messages_room, room w (words) (long) h),
-      omega (arith, ok.messages_room, words_small (words) (long) W k),
-    ) in
-    let word-here : c.loop-w.w < length c.args.marks.now = subst (λ (n : ℕ). c.loop-w.w < n) c.loop-w.invariant.4 c.loop-w-test.true in
-    let symbols-end : c.loop-w.at + c.length-n.result ≤ length c.args.symbols.now =
-    ends _ _ _ _ _ c.loop-w.invariant.1 c.length-n.ensures (inside c.loop-w.w (word-here)).0 in
-    let symbols-fit : Fits w64 (c.loop-w.at + c.length-n.result) = end_fits _ _ _ (symbols-end) (inside c.loop-w.w (word-here)).1 in
-    symbols-fit
+    let l = c.loop-w in
+    symbols-fit c.requires.filled c.requires.words_checked (word-here l.invariant.4 c.loop-w-test.true) l.invariant.1 c.length-n.ensures
 
 pub overflow_add-to-in-loop-w : goal.overflow_add-to-in-loop-w
 overflow_add-to-in-loop-w c =
-    let code : Code = code_of c.args.c in
-    let long : ℕ = message_length (code) in
-    let words : ℕ = length c.args.marks.now in
-    let xs : List ℕ = c.args.symbols.now in
-    let inside : (w : ℕ) → w < (words) → (w * (code).n + (code).n ≤ length (xs)) × (length (xs) ≤ 67042305) × (w * (long) + (long) ≤ length c.args.messages.now) × (length c.args.messages.now ≤ 67042305) =
-    λ w h. let ok = c.requires.words_checked in
-    let W = c.requires.filled.1 in
-    let n = word_short (code) c.requires.filled.0.fielded.made.lawful in
-    let k : (long) ≤ 1023 = omega (arith, n) in (
-      omega (arith, ok.long, room w (words) (code).n h),
-      omega (arith, ok.long, words_small (words) (code).n W n),
-      omega (arith, ok.messages_room, room w (words) (long) h),
-      omega (arith, ok.messages_room, words_small (words) (long) W k),
-    ) in
-    let word-here : c.loop-w.w < length c.args.marks.now = subst (λ (n : ℕ). c.loop-w.w < n) c.loop-w.invariant.4 c.loop-w-test.true in
-    let is-long : (k : ℕ) → k ≡ c.args.c.k → k ≡ (long) = λ k e. omega (arith, e, c.requires.filled.0.fielded.made.is_n) in
-    let messages-end : c.loop-w.to + c.message_length-k.result ≤ length c.args.messages.now = let k = is-long _ c.message_length-k.ensures in
-    ends _ _ _ _ _ c.loop-w.invariant.2 k (inside c.loop-w.w (word-here)).2 in
-    let messages-fit : Fits w64 (c.loop-w.to + c.message_length-k.result) = end_fits _ _ _ (messages-end) (inside c.loop-w.w (word-here)).3 in
-    messages-fit
-
-pub overflow_add-w : goal.overflow_add-w
-overflow_add-w c =
-    let word-here : c.loop-w.w < length c.args.marks.now = subst (λ (n : ℕ). c.loop-w.w < n) c.loop-w.invariant.4 c.loop-w-test.true in
-    word_fits _ _ (word-here) c.requires.filled.1
-
-pub loop-w-smaller : goal.loop-w-smaller
-loop-w-smaller c =
-    let word-here : c.loop-w.w < length c.args.marks.now = subst (λ (n : ℕ). c.loop-w.w < n) c.loop-w.invariant.4 c.loop-w-test.true in
-    falls _ _ (word-here)
+    let l = c.loop-w in
+    message-fit c.requires.filled c.requires.words_checked (word-here l.invariant.4 c.loop-w-test.true) l.invariant.2 c.message_length-k.ensures
 
 pub loop-w-preserved : goal.loop-w-preserved
 loop-w-preserved c =
     let code : Code = code_of c.args.c in
-    let long : ℕ = message_length (code) in
-    let xs : List ℕ = c.args.symbols.now in
-    let is-long : (k : ℕ) → k ≡ c.args.c.k → k ≡ (long) = λ k e. omega (arith, e, c.requires.filled.0.fielded.made.is_n) in
-    let words : ℕ = length c.args.marks.now in
-    let inside : (w : ℕ) → w < (words) → (w * (code).n + (code).n ≤ length (xs)) × (length (xs) ≤ 67042305) × (w * (long) + (long) ≤ length c.args.messages.now) × (length c.args.messages.now ≤ 67042305) =
-    λ w h. let ok = c.requires.words_checked in
-    let W = c.requires.filled.1 in
-    let n = word_short (code) c.requires.filled.0.fielded.made.lawful in
-    let k : (long) ≤ 1023 = omega (arith, n) in (
-      omega (arith, ok.long, room w (words) (code).n h),
-      omega (arith, ok.long, words_small (words) (code).n W n),
-      omega (arith, ok.messages_room, room w (words) (long) h),
-      omega (arith, ok.messages_room, words_small (words) (long) W k),
-    ) in
-    let word_long : (w at n : ℕ) → w < (words) → n ≡ (code).n → at ≡ w * (code).n → length (take (at + n - at) (drop at (xs))) ≡ (code).n =
-    λ w at n h e f. omega (arith, e, f, ((inside) w h).0, length-take (at + n - at) (drop at (xs)), length-drop at (xs)) in
-    let word_symbols_lem : (at n : ℕ) → Symbols (take n (drop at (xs))) =
-    λ at n. below_take 32 n (drop at (xs)) (below_drop 32 at (xs) c.requires.words_checked.are_symbols) in
-    let word-here : c.loop-w.w < length c.args.marks.now = subst (λ (n : ℕ). c.loop-w.w < n) c.loop-w.invariant.4 c.loop-w-test.true in
+    let long : ℕ = message_length code in
     let a = c.args in
+    let xs : List ℕ = a.symbols.now in
     let l = c.loop-w in
-    let h = word-here in
     let n = c.length-n in
     let k = c.message_length-k in
-    let is-k = is-long k.result k.ensures in
     let w = c.decode_word-o in
     let m = c.mark_of-mark in
-    let b = code in
     let made = c.requires.filled.0.fielded.made in
+    let ok = c.requires.words_checked in
+    let h = word-here l.invariant.4 c.loop-w-test.true in
     let fits = checked _ _ _ made.is_n in
-    let e = same-part l.w a.c.n l.at n.result (xs) n.ensures l.invariant.1 in
-    let ss = take (l.at + n.result - l.at) (drop l.at (xs)) in
-    let full = word_long l.w l.at n.result h n.ensures l.invariant.1 in
-    let symbols = word_symbols_lem l.at (l.at + n.result - l.at) in
-    let tried = tries_most b made.lawful fits a.p ss full symbols in
+    let e = same-part l.w a.c.n l.at n.result xs n.ensures l.invariant.1 in
+    let ss = take (l.at + n.result - l.at) (drop l.at xs) in
+    let part = word c.requires.filled ok h l.invariant.1 n.ensures in
+    let tried = tries_most code made.lawful fits a.p ss part.0 part.1 in
     let counted = counted_of (totals_told l.totals) m.result w.result.tries in
     let few =
-    few_more l.w (totals_told l.totals) l.invariant.6 m.result w.result.tries
-    (at_most _ _ _ w.ensures.answer.1 tried (pow_mono c.requires.words_checked.depth)) in
+    few_more l.w (totals_told l.totals) l.invariant.6 m.result w.result.tries (at_most _ _ _ w.ensures.answer.1 tried (pow_mono ok.depth)) in
     let told : totals_told c.add-totals.result ≡ counted =
     c.add-totals.ensures ∙ few_capped (l.w + 1) counted few (words-few _ _ h c.requires.filled.1) in
-    let written = ap length w.ensures.message ∙ message_long b made.lawful fits a.p ss full symbols in
-    let room = (inside l.w h).2 in
+    let written = ap length w.ensures.message ∙ message_long code made.lawful fits a.p ss part.0 part.1 in
+    let inside : l.w * long + long ≤ length a.messages.now = omega (arith, ok.messages_room, room l.w _ long h) in
     let done =
-    done_more b a.p (xs) l.w l.messages l.marks (totals_told l.totals) l.invariant.5 l.to m.result w.result.tries _ _ l.invariant.2
-    (begins _ _ _ _ _ l.invariant.2 l.invariant.3 room) c.loop-w-test.true
-    (w.ensures.message ∙ ap (λ (ss : List ℕ). message b (soft_stage b a.p ss)) e) written
-    (m.ensures ∙ w.ensures.answer.0 ∙ ap (λ (ss : List ℕ). mark_byte (soft_stage b a.p ss).mark) e)
-    (w.ensures.answer.1 ∙ ap (λ (ss : List ℕ). (soft_stage b a.p ss).tries) e) in (
+    done_more code a.p xs l.w l.messages l.marks (totals_told l.totals) l.invariant.5 l.to m.result w.result.tries _ _ l.invariant.2
+    (begins _ _ _ _ _ l.invariant.2 l.invariant.3 inside) c.loop-w-test.true
+    (w.ensures.message ∙ ap (λ (ss : List ℕ). message code (soft_stage code a.p ss)) e) written
+    (m.ensures ∙ w.ensures.answer.0 ∙ ap (λ (ss : List ℕ). mark_byte (soft_stage code a.p ss).mark) e)
+    (w.ensures.answer.1 ∙ ap (λ (ss : List ℕ). (soft_stage code a.p ss).tries) e) in (
       next_word _ _ h,
       more l.w a.c.n l.at n.result n.ensures l.invariant.1,
-      more l.w (long) l.to k.result is-k l.invariant.2,
-      omega (arith, l.invariant.3, c.messages-1.given),
+      more l.w long l.to k.result (is-long made k.ensures) l.invariant.2,
+      omega arith,
       simp length-set l.invariant.4,
       rw told done,
       subst (Few (l.w + 1)) (sym told) few,
@@ -349,13 +208,10 @@ loop-w-preserved c =
 
 pub returns : goal.returns
 returns c =
-    let code : Code = code_of c.args.c in
-    let long : ℕ = message_length (code) in
     let words : ℕ = length c.args.marks.now in
-    let xs : List ℕ = c.args.symbols.now in
     let a = c.args in
     let l = c.loop-w in
     let e : l.w ≡ words = all_done _ _ _ l.invariant.4 c.loop-w-test.false l.invariant.0 in
-    let d = done_end (code) a.p (xs) l.w l.messages l.marks _ l.invariant.5
-    (l.invariant.3 ∙ c.requires.words_checked.messages_room ∙ ap (λ (x : ℕ). x * long) (sym e)) (l.invariant.4 ∙ sym e) in
+    let d = done_end (code_of a.c) a.p a.symbols.now l.w l.messages l.marks _ l.invariant.5
+    (l.invariant.3 ∙ c.requires.words_checked.messages_room ∙ ap (λ (x : ℕ). x * message_length (code_of a.c)) (sym e)) (l.invariant.4 ∙ sym e) in
     record { answer = rw e at d.0; messages = rw e at d.1; marks = rw e at d.2 }
