@@ -17,50 +17,6 @@ pub loop-i-init : goal.loop-i-init
 unfolding alpha
 loop-i-init c = (omega arith, refl, refl, omega arith, logs_none c.args.c.m c.args.tables.now c.requires.1 c.requires.2)
 
-pub narrow-requires : goal.narrow-requires
-narrow-requires c =
-    let i_lt : c.loop-i.i < 2 ^ c.args.c.m - 1 = subst (λ (p : ℕ). c.loop-i.i < p) c.requires.0.is_period c.loop-i-test.true in
-    small _ _ c.requires.0.size_most (inside _ _ (i_lt))
-
-pub offset_bounds-tables-x : goal.offset_bounds-tables-x
-offset_bounds-tables-x c = entry_scaled _ _ c.requires.0.size_most c.loop-i.invariant.3
-
-pub bounds-tables-x : goal.bounds-tables-x
-bounds-tables-x c = entry_at _ _ _ c.loop-i.invariant.3 c.loop-i.invariant.4.long
-
-pub narrow-requires-in-loop-i : goal.narrow-requires-in-loop-i
-narrow-requires-in-loop-i c = small _ _ c.requires.0.size_most c.loop-i.invariant.3
-
-pub overflow_add-tables : goal.overflow_add-tables
-overflow_add-tables c =
-    let i_lt : c.loop-i.i < 2 ^ c.args.c.m - 1 = subst (λ (p : ℕ). c.loop-i.i < p) c.requires.0.is_period c.loop-i-test.true in
-    let k = c.requires.0 in
-    power_fits _ _ _ k.size_most k.is_powers (near _ _ (i_lt))
-
-pub offset_bounds-tables-powers : goal.offset_bounds-tables-powers
-offset_bounds-tables-powers c =
-    let i_lt : c.loop-i.i < 2 ^ c.args.c.m - 1 = subst (λ (p : ℕ). c.loop-i.i < p) c.requires.0.is_period c.loop-i-test.true in
-    let k = c.requires.0 in
-    power_scaled _ _ _ k.size_most k.is_powers (near _ _ (i_lt))
-
-pub bounds-tables-powers : goal.bounds-tables-powers
-bounds-tables-powers c = let l = c.loop-i in omega (arith, length-set l.tables l.x c.narrow.result, l.invariant.4.long)
-
-pub twice-x-requires : goal.twice-x-requires
-twice-x-requires c =
-    let k = c.requires.0 in
-    (k.lawful.m_least, k.lawful.m_most, k.is_powers, k.is_polynomial, c.loop-i.invariant.3)
-
-pub overflow_add-i : goal.overflow_add-i
-overflow_add-i c =
-    let i_lt : c.loop-i.i < 2 ^ c.args.c.m - 1 = subst (λ (p : ℕ). c.loop-i.i < p) c.requires.0.is_period c.loop-i-test.true in
-    step_fits _ _ 1 c.requires.0.size_most (near _ _ (i_lt)) (omega arith)
-
-pub loop-i-smaller : goal.loop-i-smaller
-loop-i-smaller c =
-    let i_lt : c.loop-i.i < 2 ^ c.args.c.m - 1 = subst (λ (p : ℕ). c.loop-i.i < p) c.requires.0.is_period c.loop-i-test.true in
-    falls _ _ (i_lt)
-
 pub loop-i-preserved : goal.loop-i-preserved
 loop-i-preserved c =
     let m = c.args.c.m in
