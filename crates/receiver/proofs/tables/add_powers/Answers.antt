@@ -1,20 +1,19 @@
 -- Below i the powers hold what is added, from i on what they held; e is d i less whole periods. Assumes nothing.
 use Prim.Native.Nat.{ℕ, ◌+◌, ◌-◌, ◌*◌, ◌%◌, ◌^◌, ◌≤◌, ◌<◌, min}
 use mathlib.Core.Path.{◌≡◌, refl, ap, subst, sym, ◌∙◌}
-use mathlib.Core.Logic.{inl, inr}
-use native.Mathlib.Nat.{mul-le-mul, le_refl}
+use mathlib.Core.Logic.{inl}
+use native.Mathlib.Nat.{mul-le-mul}
 use native.Mathlib.Omega.{arith}
-use mathlib.Core.List.{List}
-use lib.ListN.{length, get_or, set, length-set}
-use mir.Syntax.{w32, w64}
+use lib.ListN.{get_or, set, length-set}
+use mir.Syntax.{w32}
 use mir.Val.{Fits}
 use Rattle.galois.specs.Field.{alpha}
-use Rattle.galois.proofs.Primitive.{Primitive, primitive_5_10}
+use Rattle.galois.proofs.Primitive.{primitive_5_10}
 use Rattle.bch.proofs.tables.TableFills.{FieldPart, stage, stage_low, mixed, mixed_none, mixed_here, mixed_more, mixed_all}
-use Rattle.bch.proofs.tables.TableLoops.{Turn, TurnIn, turn_none, turn_in, turn_inside, turn_more, turn_out, turn_power}
+use Rattle.bch.proofs.tables.TableLoops.{TurnIn, turn_none, turn_inside, turn_more, turn_power}
 use Rattle.refusal.specs.Named.{Made}
 use Rattle.refusal.specs.declared.Code as struct
-use Rattle.receiver.proofs.Places.{near, power_at, power_fits, power_scaled, step_fits, falls, goes_on, wrapped, ended, fell}
+use Rattle.receiver.proofs.Places.{goes_on, ended}
 use Rattle.receiver.proofs.tables.add_powers.Goals as goal
 
 product_le : (k x : ℕ) → k * (x % 1024) ≤ k * 1024

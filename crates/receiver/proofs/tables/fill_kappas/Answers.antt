@@ -1,19 +1,18 @@
 -- Roots l below the loop's are written; e is 3 l less whole periods, so that it is the place's exponent. Assumes nothing.
 use Prim.Native.Nat.{ℕ, ◌+◌, ◌-◌, ◌*◌, ◌%◌, ◌^◌, ◌≤◌, ◌<◌}
-use mathlib.Core.Path.{◌≡◌, refl, ap, ap₂, subst, subst₂, sym, ◌∙◌}
-use mathlib.Core.Logic.{inl, inr}
+use mathlib.Core.Path.{◌≡◌, ap, ap₂, subst, subst₂, sym, ◌∙◌}
+use mathlib.Core.Logic.{inl}
 use native.Mathlib.Omega.{arith}
 use mathlib.Core.List.{List}
 use lib.ListN.{get_or, length-set}
 use lib.Bits.{bit_xor}
 use Rattle.galois.proofs.Primitive.{Primitive, primitive_5_10}
-use Rattle.bch.proofs.tables.CodeTables.{TrioRoots, roots_in}
-use Rattle.bch.proofs.tables.RootFills.{behind, trios_none}
-use Rattle.bch.proofs.tables.TableLoops.{FieldFilled, Turn, TurnIn, turn_first, turn_in, turn_inside, turn_more, turn_out, turn_power, trios_step, next_entry}
+use Rattle.bch.proofs.tables.RootFills.{behind}
+use Rattle.bch.proofs.tables.TableLoops.{FieldFilled, TurnIn, turn_inside, turn_more, turn_power, trios_step, next_entry}
 use Rattle.refusal.specs.Named.{Made}
 use Rattle.refusal.specs.declared.Code as struct
-use Rattle.receiver.proofs.Places.{power_at, root_at, entry_at, power_fits, power_scaled, root_fits, root_scaled, entry_scaled, step_fits}
-use Rattle.receiver.proofs.Places.{near, inside, low_scaled, low_and, falls, goes_on, wrapped, ended, fell}
+use Rattle.receiver.proofs.Places.{entry_at}
+use Rattle.receiver.proofs.Places.{goes_on}
 use Rattle.receiver.proofs.tables.fill_kappas.Goals as goal
 
 -- the code's polynomial is primitive

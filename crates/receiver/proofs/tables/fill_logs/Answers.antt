@@ -1,13 +1,12 @@
 -- Below i the logarithms and the powers are written, and x is the power of i. Assumes nothing.
 use Prim.Native.Nat.{ℕ, ◌+◌, ◌-◌, ◌^◌, ◌≤◌, ◌<◌}
-use mathlib.Core.Path.{◌≡◌, refl, ap, subst, sym, ◌∙◌}
+use mathlib.Core.Path.{◌≡◌, refl, ap, sym, ◌∙◌}
 use native.Mathlib.Omega.{arith}
 use Rattle.bch.proofs.tables.TableFills.{logs_none, logs_more, logs_all}
 use lib.ListN.{length-set}
 use Rattle.galois.specs.Field.{alpha, double}
 use Rattle.galois.proofs.Primitive.{Primitive, primitive_5_10}
 use Rattle.galois.proofs.FieldTables.{alpha_next}
-use Rattle.receiver.proofs.Places.{near, inside, entry_at, power_fits, power_scaled, entry_scaled, step_fits, falls}
 use Rattle.receiver.proofs.tables.fill_logs.Goals as goal
 
 small : (s x : ℕ) → s ≤ 1024 → x < s → x < 4294967296

@@ -1,14 +1,14 @@
 -- The entries of the even elements below w are written. Assumes nothing.
 use Prim.Native.Nat.{ℕ, ◌+◌, ◌-◌, ◌*◌, ◌%◌, ◌^◌, ◌≤◌, ◌<◌}
 use native.Mathlib.Omega.{arith}
-use mathlib.Core.Path.{◌≡◌, refl, ap, ap₂, sym, subst, subst₂, ◌∙◌}
+use mathlib.Core.Path.{◌≡◌, refl, ap, ap₂, subst, ◌∙◌}
 use mathlib.Core.Logic.{◌≢◌}
 use mathlib.Core.List.{List}
 use lib.ListN.{length, get_or, length-set}
 use Rattle.galois.proofs.Primitive.{Primitive, primitive_5_10}
 use Rattle.galois.proofs.FieldTables.{even_size}
 use Rattle.bch.proofs.tables.CodeTables.{reduced}
-use Rattle.bch.proofs.tables.RootFills.{even_end, pairs_none}
+use Rattle.bch.proofs.tables.RootFills.{even_end}
 use Rattle.bch.proofs.tables.TableLoops.{FieldFilled, filled_log_lt, pairs_step}
 use Rattle.refusal.specs.Named.{Made}
 use Rattle.refusal.specs.declared.Code as struct
