@@ -19,14 +19,8 @@ use Rattle.receiver.proofs.tables.add_powers.Goals as goal
 product_le : (k x : ℕ) → k * (x % 1024) ≤ k * 1024
 product_le k x = mul-le-mul (omega arith) (omega arith)
 
-product-fits : (k x : ℕ) → k * 1024 ≤ 2147483648 → Fits w32 (k * (x % 1024))
-product-fits k x room = record { fits = omega (arith, product_le k x) }
-
 sum_fits : (y k x : ℕ) → y < k → k * 1024 ≤ 2147483648 → Fits w32 (y + k * (x % 1024))
 sum_fits y k x low room = record { fits = omega (arith, product_le k x) }
-
-few : (d : ℕ) → d ≤ 5 → d ≤ 8
-few d h = omega arith
 
 stages : (t : ℕ) → 1 ≤ t → t ≤ 2 → (t ≤ 3) × (1 ≤ t + 1) × (t + 1 ≤ 3)
 stages t l u = (omega arith, omega arith, omega arith)

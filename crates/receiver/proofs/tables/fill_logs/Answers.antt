@@ -1,5 +1,5 @@
 -- Below i the logarithms and the powers are written, and x is the power of i. Assumes nothing.
-use Prim.Native.Nat.{ℕ, ◌+◌, ◌-◌, ◌^◌, ◌≤◌, ◌<◌}
+use Prim.Native.Nat.{ℕ, ◌+◌, ◌-◌, ◌^◌, ◌<◌}
 use mathlib.Core.Path.{◌≡◌, refl, ap, sym, ◌∙◌}
 use native.Mathlib.Omega.{arith}
 use Rattle.bch.proofs.tables.TableFills.{logs_none, logs_more, logs_all}
@@ -7,10 +7,13 @@ use lib.ListN.{length-set}
 use Rattle.galois.specs.Field.{alpha, double}
 use Rattle.galois.proofs.Primitive.{Primitive, primitive_5_10}
 use Rattle.galois.proofs.FieldTables.{alpha_next}
+use Rattle.refusal.specs.Named.{Made}
+use Rattle.refusal.specs.declared.Code as struct
 use Rattle.receiver.proofs.tables.fill_logs.Goals as goal
 
-small : (s x : ℕ) → s ≤ 1024 → x < s → x < 4294967296
-small s x most h = omega arith
+-- the code's polynomial is primitive
+prime : (k : struct.Code) → Made k → Primitive k.m
+prime k made = primitive_5_10 k.m made.lawful.m_least made.lawful.m_most
 
 pub loop-i-init : goal.loop-i-init
 unfolding alpha
@@ -20,7 +23,7 @@ pub loop-i-preserved : goal.loop-i-preserved
 loop-i-preserved c =
     let m = c.args.c.m in
     let l = c.loop-i in
-    let g : Primitive c.args.c.m = primitive_5_10 c.args.c.m c.requires.0.lawful.m_least c.requires.0.lawful.m_most in
+    let g = prime c.args.c c.requires.0 in
     let h : l.i < 2 ^ m - 1 = omega arith in (
       omega arith,
       simp length-set l.invariant.1,
@@ -34,6 +37,6 @@ pub returns : goal.returns
 returns c =
     let m = c.args.c.m in
     let l = c.loop-i in
-    let g : Primitive c.args.c.m = primitive_5_10 c.args.c.m c.requires.0.lawful.m_least c.requires.0.lawful.m_most in
+    let g = prime c.args.c c.requires.0 in
     let e : l.i ≡ 2 ^ m - 1 = omega arith in
     logs_all m g _ l.tables (omega (arith, c.narrow-2.ensures)) (rw e at l.invariant.4)
