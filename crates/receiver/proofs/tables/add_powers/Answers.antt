@@ -16,12 +16,14 @@ use Rattle.refusal.specs.declared.Code as struct
 use Rattle.receiver.proofs.Places.{goes_on, ended}
 use Rattle.receiver.proofs.tables.add_powers.Goals as goal
 
+-- what is added, and the sum, in 32 bits
 product_le : (k x : ℕ) → k * (x % 1024) ≤ k * 1024
 product_le k x = mul-le-mul (omega arith) (omega arith)
 
 sum_fits : (y k x : ℕ) → y < k → k * 1024 ≤ 2147483648 → Fits w32 (y + k * (x % 1024))
 sum_fits y k x low room = record { fits = omega (arith, product_le k x) }
 
+-- t and t + 1 are of 1 to 3
 stages : (t : ℕ) → 1 ≤ t → t ≤ 2 → (t ≤ 3) × (1 ≤ t + 1) × (t + 1 ≤ 3)
 stages t l u = (omega arith, omega arith, omega arith)
 

@@ -11,8 +11,7 @@ use Rattle.bch.proofs.tables.RootFills.{behind}
 use Rattle.bch.proofs.tables.TableLoops.{FieldFilled, TurnIn, turn_inside, turn_more, turn_power, trios_step, next_entry}
 use Rattle.refusal.specs.Named.{Made}
 use Rattle.refusal.specs.declared.Code as struct
-use Rattle.receiver.proofs.Places.{entry_at}
-use Rattle.receiver.proofs.Places.{goes_on}
+use Rattle.receiver.proofs.Places.{entry_at, goes_on}
 use Rattle.receiver.proofs.tables.fill_kappas.Goals as goal
 
 -- the code's polynomial is primitive

@@ -2,7 +2,6 @@
 use Prim.Native.Nat.{ℕ, ◌+◌, ◌-◌, ◌*◌, ◌%◌, ◌^◌, ◌≤◌, ◌<◌}
 use native.Mathlib.Omega.{arith}
 use mathlib.Core.Path.{◌≡◌, refl, ap, ap₂, subst, ◌∙◌}
-use mathlib.Core.Logic.{◌≢◌}
 use mathlib.Core.List.{List}
 use lib.ListN.{length, get_or, length-set}
 use Rattle.galois.proofs.Primitive.{Primitive, primitive_5_10}
@@ -17,9 +16,7 @@ use mir.Val.{Fits}
 use Rattle.receiver.proofs.Places.{near, root_at, root_fits, root_scaled}
 use Rattle.receiver.proofs.tables.fill_quadratics.Goals as goal
 
-above : (x : ℕ) → 2 ≤ x → x ≢ 0
-above x l e = omega arith
-
+-- the next even element
 step : (s w : ℕ) → 32 ≤ s → s % 2 ≡ 0 → w % 2 ≡ 0 → w < s - 1 → (2 ≤ w + 2) × ((w + 2) % 2 ≡ 0) × (w + 2 ≤ s)
 step s w size even e h = (omega arith, omega arith, omega arith)
 
@@ -32,7 +29,7 @@ module _ (k : struct.Code) (made : Made k) (ts : List ℕ) (f : FieldFilled k.m 
   logs_lt : (get_or ts w 0 < 2 ^ k.m - 1) × (get_or ts (w + 1) 0 < 2 ^ k.m - 1)
   logs_lt =
       let lt : (x : ℕ) → 2 ≤ x → x < 2 ^ k.m → get_or ts x 0 < 2 ^ k.m - 1 =
-      λ x l u. filled_log_lt k.m (prime k made) made.size_most k.t ts f x (above x l) u in
+      λ x l u. filled_log_lt k.m (prime k made) made.size_most k.t ts f x (λ z. omega arith) u in
       (lt w least (omega (arith, made.is_period)), lt (w + 1) (omega arith) (omega (arith, made.is_period)))
 
   -- .. so that one number of 32 bits holds both, ..
@@ -67,17 +64,20 @@ overflow_add-tables c =
 pub overflow_add-tables-in-loop-w : goal.overflow_add-tables-in-loop-w
 overflow_add-tables-in-loop-w c =
     let l = c.loop-w in
-    (place c.args.c c.requires.0 l.tables l.invariant.4 l.w l.invariant.0 c.loop-w-test.true _ _ _ c.wide.ensures c.wide-in-loop-w.ensures c.reduced-e.ensures.1).0
+    let e = c.reduced-e.ensures.1 in
+    (place c.args.c c.requires.0 l.tables l.invariant.4 l.w l.invariant.0 c.loop-w-test.true _ _ _ c.wide.ensures c.wide-in-loop-w.ensures e).0
 
 pub offset_bounds-tables-c : goal.offset_bounds-tables-c
 offset_bounds-tables-c c =
     let l = c.loop-w in
-    (place c.args.c c.requires.0 l.tables l.invariant.4 l.w l.invariant.0 c.loop-w-test.true _ _ _ c.wide.ensures c.wide-in-loop-w.ensures c.reduced-e.ensures.1).1
+    let e = c.reduced-e.ensures.1 in
+    (place c.args.c c.requires.0 l.tables l.invariant.4 l.w l.invariant.0 c.loop-w-test.true _ _ _ c.wide.ensures c.wide-in-loop-w.ensures e).1
 
 pub bounds-tables-c : goal.bounds-tables-c
 bounds-tables-c c =
     let l = c.loop-w in
-    (place c.args.c c.requires.0 l.tables l.invariant.4 l.w l.invariant.0 c.loop-w-test.true _ _ _ c.wide.ensures c.wide-in-loop-w.ensures c.reduced-e.ensures.1).2
+    let e = c.reduced-e.ensures.1 in
+    (place c.args.c c.requires.0 l.tables l.invariant.4 l.w l.invariant.0 c.loop-w-test.true _ _ _ c.wide.ensures c.wide-in-loop-w.ensures e).2
 
 pub loop-w-preserved : goal.loop-w-preserved
 loop-w-preserved c =
