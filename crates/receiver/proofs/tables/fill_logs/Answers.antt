@@ -1,71 +1,29 @@
 -- Below i the logarithms and the powers are written, and x is the power of i. Assumes nothing.
-use Prim.Native.Nat.{ℕ, ◌+◌, ◌-◌, ◌^◌, ◌≤◌, ◌<◌}
-use mathlib.Core.Path.{◌≡◌, refl, ap, subst, sym, ◌∙◌}
+use Prim.Native.Nat.{ℕ, ◌+◌, ◌-◌, ◌^◌, ◌<◌}
+use mathlib.Core.Path.{◌≡◌, refl, ap, sym, ◌∙◌}
 use native.Mathlib.Omega.{arith}
 use Rattle.bch.proofs.tables.TableFills.{logs_none, logs_more, logs_all}
 use lib.ListN.{length-set}
 use Rattle.galois.specs.Field.{alpha, double}
 use Rattle.galois.proofs.Primitive.{Primitive, primitive_5_10}
 use Rattle.galois.proofs.FieldTables.{alpha_next}
-use Rattle.receiver.proofs.Places.{near, inside, entry_at, power_fits, power_scaled, entry_scaled, step_fits, falls}
+use Rattle.refusal.specs.Named.{Made}
+use Rattle.refusal.specs.declared.Code as struct
 use Rattle.receiver.proofs.tables.fill_logs.Goals as goal
 
-small : (s x : ℕ) → s ≤ 1024 → x < s → x < 4294967296
-small s x most h = omega arith
+-- the code's polynomial is primitive
+prime : (k : struct.Code) → Made k → Primitive k.m
+prime k made = primitive_5_10 k.m made.lawful.m_least made.lawful.m_most
 
 pub loop-i-init : goal.loop-i-init
 unfolding alpha
 loop-i-init c = (omega arith, refl, refl, omega arith, logs_none c.args.c.m c.args.tables.now c.requires.1 c.requires.2)
 
-pub narrow-requires : goal.narrow-requires
-narrow-requires c =
-    let i_lt : c.loop-i.i < 2 ^ c.args.c.m - 1 = subst (λ (p : ℕ). c.loop-i.i < p) c.requires.0.is_period c.loop-i-test.true in
-    small _ _ c.requires.0.size_most (inside _ _ (i_lt))
-
-pub offset_bounds-tables-x : goal.offset_bounds-tables-x
-offset_bounds-tables-x c = entry_scaled _ _ c.requires.0.size_most c.loop-i.invariant.3
-
-pub bounds-tables-x : goal.bounds-tables-x
-bounds-tables-x c = entry_at _ _ _ c.loop-i.invariant.3 c.loop-i.invariant.4.long
-
-pub narrow-requires-in-loop-i : goal.narrow-requires-in-loop-i
-narrow-requires-in-loop-i c = small _ _ c.requires.0.size_most c.loop-i.invariant.3
-
-pub overflow_add-tables : goal.overflow_add-tables
-overflow_add-tables c =
-    let i_lt : c.loop-i.i < 2 ^ c.args.c.m - 1 = subst (λ (p : ℕ). c.loop-i.i < p) c.requires.0.is_period c.loop-i-test.true in
-    let k = c.requires.0 in
-    power_fits _ _ _ k.size_most k.is_powers (near _ _ (i_lt))
-
-pub offset_bounds-tables-powers : goal.offset_bounds-tables-powers
-offset_bounds-tables-powers c =
-    let i_lt : c.loop-i.i < 2 ^ c.args.c.m - 1 = subst (λ (p : ℕ). c.loop-i.i < p) c.requires.0.is_period c.loop-i-test.true in
-    let k = c.requires.0 in
-    power_scaled _ _ _ k.size_most k.is_powers (near _ _ (i_lt))
-
-pub bounds-tables-powers : goal.bounds-tables-powers
-bounds-tables-powers c = let l = c.loop-i in omega (arith, length-set l.tables l.x c.narrow.result, l.invariant.4.long)
-
-pub twice-x-requires : goal.twice-x-requires
-twice-x-requires c =
-    let k = c.requires.0 in
-    (k.lawful.m_least, k.lawful.m_most, k.is_powers, k.is_polynomial, c.loop-i.invariant.3)
-
-pub overflow_add-i : goal.overflow_add-i
-overflow_add-i c =
-    let i_lt : c.loop-i.i < 2 ^ c.args.c.m - 1 = subst (λ (p : ℕ). c.loop-i.i < p) c.requires.0.is_period c.loop-i-test.true in
-    step_fits _ _ 1 c.requires.0.size_most (near _ _ (i_lt)) (omega arith)
-
-pub loop-i-smaller : goal.loop-i-smaller
-loop-i-smaller c =
-    let i_lt : c.loop-i.i < 2 ^ c.args.c.m - 1 = subst (λ (p : ℕ). c.loop-i.i < p) c.requires.0.is_period c.loop-i-test.true in
-    falls _ _ (i_lt)
-
 pub loop-i-preserved : goal.loop-i-preserved
 loop-i-preserved c =
     let m = c.args.c.m in
     let l = c.loop-i in
-    let g : Primitive c.args.c.m = primitive_5_10 c.args.c.m c.requires.0.lawful.m_least c.requires.0.lawful.m_most in
+    let g = prime c.args.c c.requires.0 in
     let h : l.i < 2 ^ m - 1 = omega arith in (
       omega arith,
       simp length-set l.invariant.1,
@@ -79,6 +37,6 @@ pub returns : goal.returns
 returns c =
     let m = c.args.c.m in
     let l = c.loop-i in
-    let g : Primitive c.args.c.m = primitive_5_10 c.args.c.m c.requires.0.lawful.m_least c.requires.0.lawful.m_most in
+    let g = prime c.args.c c.requires.0 in
     let e : l.i ≡ 2 ^ m - 1 = omega arith in
     logs_all m g _ l.tables (omega (arith, c.narrow-2.ensures)) (rw e at l.invariant.4)
