@@ -27,7 +27,7 @@ after : {code : struct.Code} {tables ss ts : List ℕ} {keys : Keys} {p d tries 
     → Ready code tables ss keys p × TestWords (code_of code) p ss ts → Tried (code_of code) p ss o × (o.sure ≡ false) × (o.tries ≤ length ts)
     → d ≡ code.d
     → out ≡ judged_by (unflipped_sum (flips_of f) (tries - 1) (d - w.q) (take d (keys.at ++ keys.more)))
-      (record { sure = o.sure; tries = tries; pick = o.pick }) w f
+    (record { sure = o.sure; tries = tries; pick = o.pick }) w f
     → Sought code tables ts o.tries tries f → f.found ≡ true → (length f.at ≡ 3) × (f.count ≤ 3) × ZeroFilled f
     → Weighs (reliabilities ss) (flipped_at (flips_of f) (test p ss (tries - 1))) (hard_bits ss) w.q w.sum
     → Tried (code_of code) p ss out × (o.tries < out.tries) × (out.tries ≤ length ts)

@@ -14,17 +14,18 @@ use Rattle.chase.proofs.search.Ready.{Ready, length_candidate, start_weighs, nex
 use Rattle.receiver.proofs.weighing.weigh.Goals as goal
 use Rattle.receiver.proofs.weighing.weigh.Goals.{then-flipped, else-flipped}
 
--- the weight with the position at place a turned too
+-- the weight of test word j with the positions P turned
 abbrev Turned : List ℕ → List ℕ → ℕ → ℕ → ℕ → ℕ → Type 0
 Turned ss P p j q sum = Weighs (reliabilities ss) (flipped_at P (test p ss j)) (hard_bits ss) q sum
 
--- the sum so far is small, and place a's position, x of reliability z, is taken from it where the test word flips it, and else added to it
+-- the weight so far is small, and with one position more, of reliability z, it is less where b tells that the test word flips it, and else more
 record Step (ss at : List ℕ) (p j count a q sum z : ℕ) (b : Bool) : Type 0 where
   q-most : q ≤ 1023
   sum-most : sum ≤ 15345
   back : b ≡ true → (1 ≤ q) × (z ≤ sum) × Turned ss (take (a + 1) (take count at)) p j (q - 1) (sum - z)
   out : b ≡ false → Turned ss (take (a + 1) (take count at)) p j (q + 1) (sum + z)
 
+-- the next position x of those located makes such a step
 step : {ss ks at : List ℕ} {p j count a q sum x z : ℕ} {b : Bool} → Ready ss ks p
     → (count ≤ 3) × (length at ≡ 3) × Distinct (length ss) (take count at) → a < count → (a ≤ count) × Turned ss (take a (take count at)) p j q sum
     → x ≡ get_or at a 0 → z ≡ get_or (reliabilities ss) x 0 → b ≡ is_in x (chosen j (weakest p ss)) → Step ss at p j count a q sum z b
