@@ -10,18 +10,14 @@ use Rattle.refusal.specs.declared.Code as struct
 use Rattle.receiver.specs.Tables.{Filled}
 use Rattle.receiver.proofs.locate.by_kappa.Goals as goal
 
-module _ {c : struct.Code} {ts : List ℕ} (f : Filled c ts) where
-  -- the scale and either root's logarithm are together below eight periods
-  sums-lt : {d e k r : ℕ} → c.t ≡ 3 → d < 2 ^ c.m - 1 → e < 2 ^ c.m - 1 → k < 2 ^ c.m + 7 → r ≡ roots_in c.m ts k → 1024 ≤ r
-      → (2 * d + (c.period - e) + r % 1024 < 8 * (2 ^ c.m - 1)) × (2 * d + (c.period - e) + r / 1024 < 8 * (2 ^ c.m - 1))
-  sums-lt {d} {e} {k} {r} t hd he hk hr n =
-      let two = roots_lt c.m c.t ts f.tables t k r hk hr n in
-      let p = f.fielded.made.is_period in
-      (omega arith, omega arith)
+-- the low part of powers is an element
+low-lt : {c : struct.Code} {ts : List ℕ} {v x : ℕ} → Filled c ts → v ≡ powers_in c.m ts x → x < 2 ^ c.m + 7 → v % 1024 < 2 ^ c.m
+low-lt {c} {ts} {v} {x} f e h = rw e (power_lt c.m c.t ts f.tables x h)
 
-  -- the low part of powers is an element
-  low-lt : {v x : ℕ} → v ≡ powers_in c.m ts x → x < 2 ^ c.m + 7 → v % 1024 < 2 ^ c.m
-  low-lt {v} {x} e h = rw e (power_lt c.m c.t ts f.tables x h)
+-- the logarithms of the two roots r, read at k, are below the period
+two-lt : {c : struct.Code} {ts : List ℕ} {k r : ℕ} → Filled c ts → c.t ≡ 3 → k < 2 ^ c.m + 7 → r ≡ roots_in c.m ts k → 1024 ≤ r
+    → (r % 1024 < 2 ^ c.m - 1) × (r / 1024 < 2 ^ c.m - 1)
+two-lt {c} {ts} {k} {r} f t = roots_lt c.m c.t ts f.tables t k r
 
 pub returns-then-r-lt1024 : goal.returns-then-r-lt1024
 returns-then-r-lt1024 c =
@@ -35,17 +31,13 @@ returns-then-r-lt1024 c =
 
 pub fold-x-requires : goal.fold-x-requires
 fold-x-requires c =
-    let d-lt = c.log_of-ld.ensures.2 c.requires.4 in
-    let e-lt = c.log_of-le.ensures.2 c.requires.6 in
-    let sums = sums-lt c.requires.0 c.requires.1 d-lt e-lt c.fold-k.ensures.1 c.roots_of-r.ensures c.if-r-lt1024.false in
-    (c.requires.0.fielded.made, sums.0)
+    let two = two-lt c.requires.0 c.requires.1 c.fold-k.ensures.1 c.roots_of-r.ensures c.if-r-lt1024.false in
+    (c.requires.0.fielded.made, omega arith)
 
 pub fold-y-requires : goal.fold-y-requires
 fold-y-requires c =
-    let d-lt = c.log_of-ld.ensures.2 c.requires.4 in
-    let e-lt = c.log_of-le.ensures.2 c.requires.6 in
-    let sums = sums-lt c.requires.0 c.requires.1 d-lt e-lt c.fold-k.ensures.1 c.roots_of-r.ensures c.if-r-lt1024.false in
-    (c.requires.0.fielded.made, sums.1)
+    let two = two-lt c.requires.0 c.requires.1 c.fold-k.ensures.1 c.roots_of-r.ensures c.if-r-lt1024.false in
+    (c.requires.0.fielded.made, omega arith)
 
 pub trio-requires : goal.trio-requires
 trio-requires c =

@@ -11,16 +11,9 @@ use Rattle.refusal.specs.declared.Code as struct
 use Rattle.receiver.specs.Tables.{Filled}
 use Rattle.receiver.proofs.locate.locate.Goals as goal
 
--- a t that is neither 1 nor 2 is 3
-three : {c : struct.Code} {ts : List ℕ} → Filled c ts → (c.t ≡ 1 → ⊥) → (c.t ≡ 2 → ⊥) → c.t ≡ 3
-three f one two =
-    let least = f.tables.t_least in
-    let most = f.tables.t_most in
-    omega arith
-
 -- what is left of the syndromes s, without the powers p of S1's logarithm l, has elements as its parts
-parts-lt : {c : struct.Code} {ts : List ℕ} {s l p : ℕ} → Filled c ts → Syndromes c.m c.t s → l ≡ log_in ts (s % 1024) → p ≡ powers_in c.m ts l
-    → (bit_xor s p / 1024 % 1024 < 2 ^ c.m) × (bit_xor s p / 1048576 < 2 ^ c.m)
+parts-lt : {c : struct.Code} {ts : List ℕ} {s l p : ℕ} → Filled c ts → Syndromes c.m c.t s → l ≡ log_in ts (s % 1024)
+    → p ≡ powers_in c.m ts l → (bit_xor s p / 1024 % 1024 < 2 ^ c.m) × (bit_xor s p / 1048576 < 2 ^ c.m)
 parts-lt {c} {ts} {s} {l} {p} f h hl hp = rest_lt c.m c.t ts f.tables s l (bit_xor s p) hl (ap (bit_xor s) hp) h
 
 pub returns-then-s-eq0 : goal.returns-then-s-eq0
@@ -31,30 +24,22 @@ returns-then-s-eq0 c =
 
 pub returns-then-rest-eq0 : goal.returns-then-rest-eq0
 returns-then-rest-eq0 c =
-    let a = c.args in
     let e = c.one.ensures in
-    let left = ap (bit_xor a.s) c.powers_of.ensures in
-    (locate_one a.c.m a.c.t a.c.n a.tables.now a.s c.if-s-eq0.false _ _ _ refl c.log_of-l1.ensures.0 left c.if-rest-eq0.true e.0, e.1, e.2)
+    let left = ap (bit_xor c.args.s) c.powers_of.ensures in
+    (locate_one _ _ _ _ _ c.if-s-eq0.false _ _ _ refl c.log_of-l1.ensures.0 left c.if-rest-eq0.true e.0, e.1, e.2)
 
 pub returns-then-t-eq1 : goal.returns-then-t-eq1
 returns-then-t-eq1 c =
-    let a = c.args in
     let e = c.lost.ensures in
-    let left = ap (bit_xor a.s) c.powers_of.ensures in
-    let q =
-    locate_single a.c.m a.c.t a.c.n a.tables.now a.s c.if-s-eq0.false _ _ _ refl c.log_of-l1.ensures.0 left
-    c.if-rest-eq0.false c.if-t-eq1.true e.0 in
-    (q, e.1, e.2)
+    let left = ap (bit_xor c.args.s) c.powers_of.ensures in
+    (locate_single _ _ _ _ _ c.if-s-eq0.false _ _ _ refl c.log_of-l1.ensures.0 left c.if-rest-eq0.false c.if-t-eq1.true e.0, e.1, e.2)
 
 pub returns-then-s1-eq0 : goal.returns-then-s1-eq0
 returns-then-s1-eq0 c =
-    let a = c.args in
     let e = c.lost-then-s1-eq0.ensures in
-    let left = ap (bit_xor a.s) c.powers_of.ensures in
-    let q =
-    locate_two_zero a.c.m a.c.t a.c.n a.tables.now a.s c.if-s-eq0.false _ _ _ refl c.log_of-l1.ensures.0 left
-    c.if-rest-eq0.false _ refl c.if-t-eq2.true c.if-s1-eq0.true e.0 in
-    (q, e.1, e.2)
+    let left = ap (bit_xor c.args.s) c.powers_of.ensures in
+    (locate_two_zero _ _ _ _ _ c.if-s-eq0.false _ _ _ refl c.log_of-l1.ensures.0 left
+    c.if-rest-eq0.false _ refl c.if-t-eq2.true c.if-s1-eq0.true e.0, e.1, e.2)
 
 pub pair-requires : goal.pair-requires
 pair-requires c =
@@ -67,24 +52,18 @@ pair-requires c =
 
 pub returns-then-t-eq2 : goal.returns-then-t-eq2
 returns-then-t-eq2 c =
-    let a = c.args in
     let e = c.pair.ensures in
-    let left = ap (bit_xor a.s) c.powers_of.ensures in
-    let q =
-    locate_two a.c.m a.c.t a.c.n a.tables.now a.s c.if-s-eq0.false _ _ _ refl c.log_of-l1.ensures.0 left
-    c.if-rest-eq0.false _ refl c.if-t-eq2.true c.if-s1-eq0.false e.0 in
-    (q, e.1, e.2)
+    let left = ap (bit_xor c.args.s) c.powers_of.ensures in
+    (locate_two _ _ _ _ _ c.if-s-eq0.false _ _ _ refl c.log_of-l1.ensures.0 left
+    c.if-rest-eq0.false _ refl c.if-t-eq2.true c.if-s1-eq0.false e.0, e.1, e.2)
 
 pub returns-then-d2-eq0 : goal.returns-then-d2-eq0
 returns-then-d2-eq0 c =
-    let a = c.args in
     let e = c.lost-then-d2-eq0.ensures in
-    let left = ap (bit_xor a.s) c.powers_of.ensures in
-    let t = three c.requires.0 c.if-t-eq1.false c.if-t-eq2.false in
-    let q =
-    locate_flat a.c.m a.c.t a.c.n a.tables.now a.s c.if-s-eq0.false _ _ _ refl c.log_of-l1.ensures.0 left
-    c.if-rest-eq0.false _ refl t c.if-d2-eq0.true e.0 in
-    (q, e.1, e.2)
+    let left = ap (bit_xor c.args.s) c.powers_of.ensures in
+    let t : c.args.c.t ≡ 3 = omega arith in
+    (locate_flat _ _ _ _ _ c.if-s-eq0.false _ _ _ refl c.log_of-l1.ensures.0 left
+    c.if-rest-eq0.false _ refl t c.if-d2-eq0.true e.0, e.1, e.2)
 
 pub by_cubes-requires : goal.by_cubes-requires
 by_cubes-requires c =
@@ -93,28 +72,22 @@ by_cubes-requires c =
 
 pub returns-then-e-eq0 : goal.returns-then-e-eq0
 returns-then-e-eq0 c =
-    let a = c.args in
     let e = c.by_cubes.ensures in
-    let left = ap (bit_xor a.s) c.powers_of.ensures in
-    let t = three c.requires.0 c.if-t-eq1.false c.if-t-eq2.false in
-    let q =
-    locate_cubes a.c.m a.c.t a.c.n a.tables.now a.s c.if-s-eq0.false _ _ _ refl c.log_of-l1.ensures.0 left
-    c.if-rest-eq0.false _ refl t c.if-d2-eq0.false _ refl c.if-e-eq0.true e.0 in
-    (q, e.1, e.2)
+    let left = ap (bit_xor c.args.s) c.powers_of.ensures in
+    let t : c.args.c.t ≡ 3 = omega arith in
+    (locate_cubes _ _ _ _ _ c.if-s-eq0.false _ _ _ refl c.log_of-l1.ensures.0 left
+    c.if-rest-eq0.false _ refl t c.if-d2-eq0.false _ refl c.if-e-eq0.true e.0, e.1, e.2)
 
 pub by_kappa-requires : goal.by_kappa-requires
 by_kappa-requires c =
     let parts = parts-lt c.requires.0 c.requires.1 c.log_of-l1.ensures.0 c.powers_of.ensures in
-    let t = three c.requires.0 c.if-t-eq1.false c.if-t-eq2.false in
+    let t : c.args.c.t ≡ 3 = omega arith in
     (c.requires.0, t, c.requires.1.first, parts.0, c.if-d2-eq0.false, parts.1, c.if-e-eq0.false)
 
 pub returns : goal.returns
 returns c =
-    let a = c.args in
     let e = c.by_kappa.ensures in
-    let left = ap (bit_xor a.s) c.powers_of.ensures in
-    let t = three c.requires.0 c.if-t-eq1.false c.if-t-eq2.false in
-    let q =
-    locate_kappa a.c.m a.c.t a.c.n a.tables.now a.s c.if-s-eq0.false _ _ _ refl c.log_of-l1.ensures.0 left
-    c.if-rest-eq0.false _ refl t c.if-d2-eq0.false _ refl c.if-e-eq0.false e.0 in
-    (q, e.1, e.2)
+    let left = ap (bit_xor c.args.s) c.powers_of.ensures in
+    let t : c.args.c.t ≡ 3 = omega arith in
+    (locate_kappa _ _ _ _ _ c.if-s-eq0.false _ _ _ refl c.log_of-l1.ensures.0 left
+    c.if-rest-eq0.false _ refl t c.if-d2-eq0.false _ refl c.if-e-eq0.false e.0, e.1, e.2)
