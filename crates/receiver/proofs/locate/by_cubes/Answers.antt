@@ -1,5 +1,5 @@
 -- D2's cube root by a third of its logarithm, and the next by a third of the period more. Assumes nothing.
-use Prim.Native.Nat.{ℕ, ◌+◌, ◌-◌, ◌/◌, ◌%◌, ◌^◌, ◌<◌}
+use Prim.Native.Nat.{ℕ, ◌+◌, ◌/◌, ◌%◌, ◌^◌, ◌<◌}
 use mathlib.Core.Path.{◌≡◌, ap}
 use mathlib.Core.List.{List}
 use native.Mathlib.Omega.{arith}
@@ -33,8 +33,6 @@ returns-then-l-ne0 c =
 pub trio-requires : goal.trio-requires
 trio-requires c =
     let f = c.requires.0 in
-    let log_lt = c.log_of-l.ensures.2 c.requires.3 in
-    let p = f.fielded.made.is_period in
     let third : c.log_of-l.result / 3 < 2 ^ c.args.c.m + 7 = omega arith in
     let next : c.log_of-l.result / 3 + c.args.c.period / 3 < 2 ^ c.args.c.m + 7 = omega arith in
     (f, c.requires.1, low-lt f c.powers_of-x.ensures third, low-lt f c.powers_of-y.ensures next)

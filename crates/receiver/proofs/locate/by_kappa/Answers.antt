@@ -1,5 +1,5 @@
 -- k, its two roots and the scale as the logarithms say; each sum of exponents is below eight periods. Assumes nothing.
-use Prim.Native.Nat.{ℕ, ◌+◌, ◌-◌, ◌*◌, ◌/◌, ◌%◌, ◌^◌, ◌≤◌, ◌<◌}
+use Prim.Native.Nat.{ℕ, ◌+◌, ◌-◌, ◌/◌, ◌%◌, ◌^◌, ◌≤◌, ◌<◌}
 use mathlib.Core.Path.{◌≡◌, refl, ap}
 use mathlib.Core.List.{List}
 use native.Mathlib.Omega.{arith}
@@ -25,8 +25,7 @@ returns-then-r-lt1024 c =
     let e = c.lost.ensures in
     let q =
     kappa_lost a.c.m a.c.n a.tables.now a.s1 a.d2 a.e a.c.period _ _ _ _ c.requires.0.fielded.made.is_period
-    c.log_of-ld.ensures.0 c.log_of-le.ensures.0 c.fold-k.ensures.0 c.roots_of-r.ensures
-    c.if-r-lt1024.true e.0 in
+    c.log_of-ld.ensures.0 c.log_of-le.ensures.0 c.fold-k.ensures.0 c.roots_of-r.ensures c.if-r-lt1024.true e.0 in
     (q, e.1, e.2)
 
 pub fold-x-requires : goal.fold-x-requires

@@ -5,7 +5,8 @@ use mathlib.Core.List.{List}
 use native.Mathlib.Omega.{arith}
 use lib.Bits.{bit_xor}
 use Rattle.bch.proofs.tables.CodeTables.{log_in, powers_in}
-use Rattle.bch.proofs.logarithms.LogSteps.{locate_none, locate_one, locate_single, locate_two_zero, locate_two, locate_flat, locate_cubes, locate_kappa}
+use Rattle.bch.proofs.logarithms.LogSteps.{locate_none, locate_one, locate_single, locate_two_zero, locate_two}
+use Rattle.bch.proofs.logarithms.LogSteps.{locate_flat, locate_cubes, locate_kappa}
 use Rattle.bch.proofs.logarithms.LogBounds.{Syndromes, rest_lt, rest_two}
 use Rattle.refusal.specs.declared.Code as struct
 use Rattle.receiver.specs.Tables.{Filled}
@@ -18,52 +19,52 @@ parts-lt {c} {ts} {s} {l} {p} f h hl hp = rest_lt c.m c.t ts f.tables s l (bit_x
 
 pub returns-then-s-eq0 : goal.returns-then-s-eq0
 returns-then-s-eq0 c =
-    let a = c.args in
     let e = c.clean.ensures in
-    (locate_none a.c.m a.c.t a.c.n a.tables.now a.s c.if-s-eq0.true e.0, e.1, e.2)
+    (locate_none _ _ _ _ _ c.if-s-eq0.true e.0, e.1, e.2)
 
 pub returns-then-rest-eq0 : goal.returns-then-rest-eq0
 returns-then-rest-eq0 c =
     let e = c.one.ensures in
+    let l = c.log_of-l1.ensures in
     let left = ap (bit_xor c.args.s) c.powers_of.ensures in
-    (locate_one _ _ _ _ _ c.if-s-eq0.false _ _ _ refl c.log_of-l1.ensures.0 left c.if-rest-eq0.true e.0, e.1, e.2)
+    (locate_one _ _ _ _ _ c.if-s-eq0.false _ _ _ refl l.0 left c.if-rest-eq0.true e.0, e.1, e.2)
 
 pub returns-then-t-eq1 : goal.returns-then-t-eq1
 returns-then-t-eq1 c =
     let e = c.lost.ensures in
+    let l = c.log_of-l1.ensures in
     let left = ap (bit_xor c.args.s) c.powers_of.ensures in
-    (locate_single _ _ _ _ _ c.if-s-eq0.false _ _ _ refl c.log_of-l1.ensures.0 left c.if-rest-eq0.false c.if-t-eq1.true e.0, e.1, e.2)
+    (locate_single _ _ _ _ _ c.if-s-eq0.false _ _ _ refl l.0 left c.if-rest-eq0.false c.if-t-eq1.true e.0, e.1, e.2)
 
 pub returns-then-s1-eq0 : goal.returns-then-s1-eq0
 returns-then-s1-eq0 c =
     let e = c.lost-then-s1-eq0.ensures in
+    let l = c.log_of-l1.ensures in
     let left = ap (bit_xor c.args.s) c.powers_of.ensures in
-    (locate_two_zero _ _ _ _ _ c.if-s-eq0.false _ _ _ refl c.log_of-l1.ensures.0 left
-    c.if-rest-eq0.false _ refl c.if-t-eq2.true c.if-s1-eq0.true e.0, e.1, e.2)
+    (locate_two_zero _ _ _ _ _ c.if-s-eq0.false _ _ _ refl l.0 left c.if-rest-eq0.false _ refl c.if-t-eq2.true c.if-s1-eq0.true e.0, e.1, e.2)
 
 pub pair-requires : goal.pair-requires
 pair-requires c =
-    let a = c.args in
+    let f = c.requires.0 in
     let l = c.log_of-l1.ensures in
-    let left = ap (bit_xor a.s) c.powers_of.ensures in
-    let two =
-    rest_two a.c.m a.c.t a.tables.now c.requires.0.tables a.s _ _ l.0 left c.requires.1 c.if-t-eq2.true c.if-rest-eq0.false in
-    (c.requires.0, l.2 c.if-s1-eq0.false, (parts-lt c.requires.0 c.requires.1 l.0 c.powers_of.ensures).0, two)
+    let left = ap (bit_xor c.args.s) c.powers_of.ensures in
+    let two = rest_two _ _ _ f.tables c.args.s _ _ l.0 left c.requires.1 c.if-t-eq2.true c.if-rest-eq0.false in
+    (f, l.2 c.if-s1-eq0.false, (parts-lt f c.requires.1 l.0 c.powers_of.ensures).0, two)
 
 pub returns-then-t-eq2 : goal.returns-then-t-eq2
 returns-then-t-eq2 c =
     let e = c.pair.ensures in
+    let l = c.log_of-l1.ensures in
     let left = ap (bit_xor c.args.s) c.powers_of.ensures in
-    (locate_two _ _ _ _ _ c.if-s-eq0.false _ _ _ refl c.log_of-l1.ensures.0 left
-    c.if-rest-eq0.false _ refl c.if-t-eq2.true c.if-s1-eq0.false e.0, e.1, e.2)
+    (locate_two _ _ _ _ _ c.if-s-eq0.false _ _ _ refl l.0 left c.if-rest-eq0.false _ refl c.if-t-eq2.true c.if-s1-eq0.false e.0, e.1, e.2)
 
 pub returns-then-d2-eq0 : goal.returns-then-d2-eq0
 returns-then-d2-eq0 c =
     let e = c.lost-then-d2-eq0.ensures in
+    let l = c.log_of-l1.ensures in
     let left = ap (bit_xor c.args.s) c.powers_of.ensures in
     let t : c.args.c.t ≡ 3 = omega arith in
-    (locate_flat _ _ _ _ _ c.if-s-eq0.false _ _ _ refl c.log_of-l1.ensures.0 left
-    c.if-rest-eq0.false _ refl t c.if-d2-eq0.true e.0, e.1, e.2)
+    (locate_flat _ _ _ _ _ c.if-s-eq0.false _ _ _ refl l.0 left c.if-rest-eq0.false _ refl t c.if-d2-eq0.true e.0, e.1, e.2)
 
 pub by_cubes-requires : goal.by_cubes-requires
 by_cubes-requires c =
@@ -73,21 +74,20 @@ by_cubes-requires c =
 pub returns-then-e-eq0 : goal.returns-then-e-eq0
 returns-then-e-eq0 c =
     let e = c.by_cubes.ensures in
+    let l = c.log_of-l1.ensures in
     let left = ap (bit_xor c.args.s) c.powers_of.ensures in
     let t : c.args.c.t ≡ 3 = omega arith in
-    (locate_cubes _ _ _ _ _ c.if-s-eq0.false _ _ _ refl c.log_of-l1.ensures.0 left
-    c.if-rest-eq0.false _ refl t c.if-d2-eq0.false _ refl c.if-e-eq0.true e.0, e.1, e.2)
+    (locate_cubes _ _ _ _ _ c.if-s-eq0.false _ _ _ refl l.0 left c.if-rest-eq0.false _ refl t c.if-d2-eq0.false _ refl c.if-e-eq0.true e.0, e.1, e.2)
 
 pub by_kappa-requires : goal.by_kappa-requires
 by_kappa-requires c =
     let parts = parts-lt c.requires.0 c.requires.1 c.log_of-l1.ensures.0 c.powers_of.ensures in
-    let t : c.args.c.t ≡ 3 = omega arith in
-    (c.requires.0, t, c.requires.1.first, parts.0, c.if-d2-eq0.false, parts.1, c.if-e-eq0.false)
+    (c.requires.0, omega arith, c.requires.1.first, parts.0, c.if-d2-eq0.false, parts.1, c.if-e-eq0.false)
 
 pub returns : goal.returns
 returns c =
     let e = c.by_kappa.ensures in
+    let l = c.log_of-l1.ensures in
     let left = ap (bit_xor c.args.s) c.powers_of.ensures in
     let t : c.args.c.t ≡ 3 = omega arith in
-    (locate_kappa _ _ _ _ _ c.if-s-eq0.false _ _ _ refl c.log_of-l1.ensures.0 left
-    c.if-rest-eq0.false _ refl t c.if-d2-eq0.false _ refl c.if-e-eq0.false e.0, e.1, e.2)
+    (locate_kappa _ _ _ _ _ c.if-s-eq0.false _ _ _ refl l.0 left c.if-rest-eq0.false _ refl t c.if-d2-eq0.false _ refl c.if-e-eq0.false e.0, e.1, e.2)
