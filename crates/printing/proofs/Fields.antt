@@ -254,4 +254,16 @@ row_long i mark L margin tries n =
     let lc = length-append c (32 ∷ (d ++ (32 ∷ (e ++ (10 ∷ []))))) in
     let lb = length-append b (32 ∷ (c ++ (32 ∷ (d ++ (32 ∷ (e ++ (10 ∷ []))))))) in
     let la = length-append a (32 ∷ (b ++ (32 ∷ (c ++ (32 ∷ (d ++ (32 ∷ (e ++ (10 ∷ []))))))))) in
-    omega (arith, la, lb, lc, ld, le, padded_long 5 (decimal i) n.index, padded_long 4 mark (omega (arith, n.mark)), padded_long 4 (decimal L) n.distance, padded_long 5 (signed margin) n.margin, padded_long 2 (decimal tries) n.tries)
+    omega (
+      arith,
+      la,
+      lb,
+      lc,
+      ld,
+      le,
+      padded_long 5 (decimal i) n.index,
+      padded_long 4 mark (omega (arith, n.mark)),
+      padded_long 4 (decimal L) n.distance,
+      padded_long 5 (signed margin) n.margin,
+      padded_long 2 (decimal tries) n.tries,
+    )

@@ -55,7 +55,7 @@ pub enum HardCase {
 }
 
 // The hard stage's answer: its case, and the flipped positions: their number, and three places in which they rise and unused ones are 0.
-// (A refusal and a lost word have none. The case stands beside the array, since an enum can't hold one.)
+// (A refusal and a lost word have none. The case stands beside the array.)
 #[derive(Clone, Copy)]
 pub struct Hard {
     pub case: HardCase,

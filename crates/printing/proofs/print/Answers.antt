@@ -31,7 +31,9 @@ pub returns-in-Refused : goal.returns-in-Refused
 unfolding opening_of
 returns-in-Refused c =
     let bs = c.args.input.now in
-    let f = as_listed _ _ _ _ _ (refused_output bs c.if-input-gt65536.false _ (sym (ap opening_of c.in-Refused.is) ∙ c.open_take.ensures)) (c.list-in-Refused.ensures.value, (c.list-in-Refused.ensures.text, c.list-in-Refused.ensures.upper_bound)) in
+    let e = sym (ap opening_of c.in-Refused.is) ∙ c.open_take.ensures in
+    let k = c.list-in-Refused.ensures in
+    let f = as_listed _ _ _ _ _ (refused_output bs c.if-input-gt65536.false _ e) (k.value, (k.text, k.upper_bound)) in
     record { value = f.0; text = f.1.0; upper_bound = f.1.1 }
 
 pub returns-in-Opened : goal.returns-in-Opened

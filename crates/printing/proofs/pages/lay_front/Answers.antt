@@ -15,7 +15,10 @@ pub slice_bounds-lay_take-end-2 : goal.slice_bounds-lay_take-end-2
 slice_bounds-lay_take-end-2 c = sym (length-take-le c.length_of-length.result c.args.text.now (omega (arith, c.requires.1, c.length_of-length.ensures, ap strip_length c.count.ensures.0)))
 
 pub lay_take-requires : goal.lay_take-requires
-lay_take-requires c = (c.requires.0, length-take-le c.length_of-length.result c.args.text.now (omega (arith, c.requires.1, c.length_of-length.ensures, ap strip_length c.count.ensures.0)) ∙ c.length_of-length.ensures ∙ ap strip_length c.count.ensures.0)
+lay_take-requires c =
+    let e = ap strip_length c.count.ensures.0 in
+    let n = c.length_of-length in
+    (c.requires.0, length-take-le n.result c.args.text.now (omega (arith, c.requires.1, n.ensures, e)) ∙ n.ensures ∙ e)
 
 pub returns : goal.returns
 returns c =

@@ -23,8 +23,12 @@ lay_word-k-requires c =
 pub loop-w-preserved : goal.loop-w-preserved
 loop-w-preserved c =
     let l = c.loop-w in
-    let d = c.lay_word-k in
-    (omega (arith, c.loop-w-test.true), omega (arith, l.invariant.1, d.auto.codeword), omega (arith, l.invariant.2, d.auto.text), laid_more _ (header_of c.args.h) c.requires.0 l.w _ _ _ l.k d.result l.invariant.3 d.ensures)
+    let d = c.lay_word-k in (
+      omega (arith, c.loop-w-test.true),
+      omega (arith, l.invariant.1, d.auto.codeword),
+      omega (arith, l.invariant.2, d.auto.text),
+      laid_more _ (header_of c.args.h) c.requires.0 l.w _ _ _ l.k d.result l.invariant.3 d.ensures,
+    )
 
 pub returns : goal.returns
 returns c =

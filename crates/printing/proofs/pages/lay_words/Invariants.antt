@@ -8,7 +8,8 @@ use Rattle.printing.specs.Progress.{Laid}
 use Rattle.printing.proofs.pages.lay_words.Given as goal
 
 abbrev pub invariant-loop-w : goal.invariant-loop-w
-invariant-loop-w l = (l.w ≤ l.words) × (length l.codeword ≡ word_length (header_of l.h).code) × (length l.text ≡ length l.initial.text) × Laid l.take (header_of l.h) l.w l.initial.text l.text l.k
+invariant-loop-w l = (l.w ≤ l.words) × (length l.codeword ≡ word_length (header_of l.h).code) × (length l.text ≡ length l.initial.text)
+    × Laid l.take (header_of l.h) l.w l.initial.text l.text l.k
 
 abbrev pub decreases-loop-w : goal.decreases-loop-w
 decreases-loop-w l = l.words - l.w
