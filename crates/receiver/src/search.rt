@@ -2,145 +2,103 @@
 //
 // The test words stand in an array of 64, which is doubled only as far as the search gets: test word 0 needs none, the next seven are made at
 // once, and then each weak position doubles them. The search keeps numbers alone (`Outcome`); the codeword is written after it.
-ghost use Rattle.std.specs.Prelude.{◌≡◌, false, ◌++◌, ◌-◌, ◌^◌, ◌<◌, ◌≤◌, length, take};
+ghost use Rattle.std.specs.Prelude.{◌≡◌, ◌++◌, ◌-◌, ◌^◌, ◌<◌, ◌≤◌, length, take};
 ghost use Rattle.bch.proofs.logarithms.LogAnswers.{syndromes_of};
 ghost use Rattle.chase.specs.Soft.{hard_bits, soft_stage};
 ghost use Rattle.chase.proofs.ranking.Allowances.{unflipped_sum};
 ghost use Rattle.refusal.specs.Named.{code_of};
 ghost use Rattle.receiver.specs.Located.{flips_of};
-ghost use Rattle.receiver.specs.Search.{farther_pick, nearer_pick, judged_by, outcome_of, Ready, Sound, Tried, TestWords, Untried};
+ghost use Rattle.receiver.specs.Tables.{code_in};
+ghost use Rattle.receiver.specs.Search.{judged_by, outcome_of, Sound, Tried, TestWords, IsUnsure};
 
-use crate::locate::Flips;
+use crate::least_keys::Ranked;
+use crate::tables::Tables;
 use crate::weighing::Weight;
-use crate::{hard_stage, locate, test_words, weighing};
-use ranking::Keys;
-use refusal::Code;
+use crate::{Flips, Mark, hard_stage, locate, test_words};
 
-// A candidate by its numbers: q, L and A, the test word that gave it and where that is flipped. Where nothing is found it is none.
+// A candidate by its numbers: q, L and A, the test word that gave it and where that is flipped.
 #[derive(Clone, Copy)]
 pub struct Pick {
-    pub q: u32,
-    pub sum: u32,
+    pub weight: Weight,
     pub allowed: u32,
     pub place: usize,
     pub flips: Flips,
 }
 
-// How far the search is: whether it is ended by a sure candidate, the hard decodings made, and the best candidate.
+// The best candidate so far: none, one that leaves the search going, or one that ends it.
+#[derive(Clone, Copy)]
+pub enum Best {
+    Nothing,
+    Fair(Pick),
+    Sure(Pick),
+}
+
+// How far the search is: the hard decodings made, and the best candidate.
 #[derive(Clone, Copy)]
 pub struct Outcome {
-    pub sure: bool,
     pub tries: usize,
-    pub pick: Pick,
+    pub best: Best,
 }
 
-// Nothing is tried.
-fn untried() -> Outcome
-    ensures { Untried result }
-{
-    Outcome {
-        sure: false,
-        tries: 0,
-        pick: Pick {
-            q: 0,
-            sum: 0,
-            allowed: 0,
-            place: 0,
-            flips: Flips {
-                found: false,
-                count: 0,
-                at: [0usize; 3],
-            },
-        },
+impl Outcome {
+    // The best candidate, where there is one.
+    pub fn pick(self) -> Option<Pick>
+        ensures { result ≡ pick_in self }
+    {
+        match self.best {
+            Best::Nothing => None,
+            Best::Fair(pick) | Best::Sure(pick) => Some(pick),
+        }
     }
-}
 
-// Whether a candidate of distance `sum` is farther than the best so far.
-fn farther(best: Pick, sum: u32) -> bool
-    ensures { result ≡ farther_pick best sum }
-{
-    let found = best.flips.found;
-    if !found {
-        return false;
+    // Its mark.
+    pub fn mark(self) -> Mark
+        ensures { result ≡ mark_in self }
+    {
+        match self.best {
+            Best::Nothing => Mark::Lost,
+            Best::Fair(_) => Mark::Fair,
+            Best::Sure(_) => Mark::Sure,
+        }
     }
-    best.sum < sum
-}
 
-// Whether a candidate of distance `sum` is better than the best so far: there is none, or it is farther.
-fn nearer(best: Pick, sum: u32) -> bool
-    ensures { result ≡ nearer_pick best sum }
-{
-    let found = best.flips.found;
-    if !found {
-        return true;
+    // Whether a candidate ended the search.
+    fn is_sure(self) -> bool
+        ensures { IsTrue result ↔ IsSure self }
+    {
+        matches!(self.best, Best::Sure(_))
     }
-    sum < best.sum
 }
 
 // The outcome with the candidate of the last try: it ends the search where its margin is 0 or more, and is kept where it is nearer than the
 // best so far. (One that is farther has a margin below 0, by the law `far_unsure`, chase `search.Passing`: A is not worked out for it.)
-fn judged(d: usize, keys: Keys, o: Outcome, w: Weight, f: Flips) -> Outcome
-    requires { (length keys.at ≡ 6) × (length keys.more ≡ 2) × (d ≤ 8) × (1 ≤ o.tries) × (f.count ≤ 3) × (length f.at ≡ 3) }
-    ensures { result ≡ judged_by (unflipped_sum (flips_of f) (o.tries - 1) (d - w.q) (take d (keys.at ++ keys.more))) o w f }
+fn judged(word: &Ranked, o: Outcome, weight: Weight, flips: Flips) -> Outcome
+    requires { 1 ≤ o.tries }
+    ensures { result ≡ judged_by (unflipped_sum (flips_of flips) (o.tries - 1) (word.now.d - weight.q) (take word.now.d (word.now.keys.at ++ word.now.keys.more))) o weight flips }
 {
-    if farther(o.pick, w.sum) {
+    let best = o.pick();
+    if best.is_some_and(|b| b.weight.sum < weight.sum) {
         return o;
     }
-    let j = o.tries - 1;
-    let a = weighing::allowance(keys, d, j, w.q, f);
-    let k = Pick {
-        q: w.q,
-        sum: w.sum,
-        allowed: a,
-        place: j,
-        flips: f,
+    let place = o.tries - 1;
+    let allowed = word.allowance(place, weight.q, &flips);
+    let pick = Pick {
+        weight,
+        allowed,
+        place,
+        flips,
     };
-    if w.sum <= a {
+    if weight.sum <= allowed {
         return Outcome {
-            sure: true,
             tries: o.tries,
-            pick: k,
+            best: Best::Sure(pick),
         };
     }
-    if nearer(o.pick, w.sum) {
+    if best.is_none_or(|b| weight.sum < b.weight.sum) {
         return Outcome {
-            sure: false,
             tries: o.tries,
-            pick: k,
+            best: Best::Fair(pick),
         };
-    }
-    o
-}
-
-// The tries of test words that are ready, unless one of them ends the search.
-fn try_on(
-    c: Code,
-    tables: &[u32],
-    s: &[u8],
-    keys: Keys,
-    p: usize,
-    tests: &[u64],
-    start: Outcome,
-) -> Outcome
-    requires ready { Ready c tables.now s.now keys p × TestWords (code_of c) p s.now tests.now }
-    requires tried { Tried (code_of c) p s.now start × (start.sure ≡ false) × (start.tries ≤ length tests.now) }
-    ensures { Tried (code_of c) p s.now result × (result.sure ≡ false → result.tries ≡ length tests.now) }
-{
-    let d = c.distance();
-    let mut o = start;
-    while o.tries < tests.len() {
-        let e = locate::next(c, tables, tests, o.tries);
-        o.tries = e.tries;
-        let found = e.flips.found;
-        if !found {
-            return o;
-        }
-        let j = e.tries - 1;
-        let w = weighing::weigh(s, keys, p, j, test_words::weight_in(tests[j]), e.flips);
-        o = judged(d, keys, o, w, e.flips);
-        if o.sure {
-            return o;
-        }
     }
     o
 }
@@ -150,58 +108,77 @@ fn due(b: usize, p: usize) -> bool
     requires { b ≤ p }
     ensures { result ≡ false → b < p }
 {
-    if b < 3 {
-        return b == p;
-    }
-    true
+    3 <= b || b == p
 }
 
-// The tries after that of test word 0: each weak position doubles the test words, as far as the search gets.
-fn search_on(
-    c: Code,
-    tables: &[u32],
-    s: &[u8],
-    keys: Keys,
-    p: usize,
-    base: u64,
-    start: Outcome,
-) -> Outcome
-    requires ready { Ready c tables.now s.now keys p × (base ≡ syndromes_of (code_of c) (hard_bits s.now)) }
-    requires tried { Tried (code_of c) p s.now start × (start.sure ≡ false) × (start.tries ≡ 1) }
-    ensures { Tried (code_of c) p s.now result × (result.sure ≡ false → result.tries ≡ 2 ^ p) }
-{
-    let at = keys.at;
-    let mut tests = [base; 64];
-    let mut o = start;
-    let mut to = 1;
-    let mut b = 0;
-    while b < p {
-        test_words::double(c, tables, at[b], to, &mut tests);
-        to = 2 * to;
-        b += 1;
-        if due(b, p) {
-            o = try_on(c, tables, s, keys, p, &tests[..to], o);
-            if o.sure {
+// A ranked word with its code's tables.
+pub struct Search<'a> {
+    pub tables: &'a Tables<'a>,
+    pub word: &'a Ranked<'a>,
+    ghost long: { length word.now.symbols.now ≡ (code_in tables.now).n },
+    ghost apart: { word.now.d ≡ design_distance (code_of (code_in tables.now)) },
+}
+
+impl<'a> Search<'a> {
+    // The tries of test words that are ready, unless one of them ends the search.
+    fn try_on(&self, tests: &[u64], start: Outcome) -> Outcome
+        requires tests { TestWords (code_of (code_in self.now.tables.now)) self.now.word.now.p self.now.word.now.symbols.now tests.now }
+        requires tried { Tried (code_of (code_in self.now.tables.now)) self.now.word.now.p self.now.word.now.symbols.now start × IsUnsure start × (start.tries ≤ length tests.now) }
+        ensures { Tried (code_of (code_in self.now.tables.now)) self.now.word.now.p self.now.word.now.symbols.now result × (IsUnsure result → result.tries ≡ length tests.now) }
+    {
+        let mut o = start;
+        while o.tries < tests.len() {
+            let spot = locate::next(self.tables, tests, o.tries);
+            o.tries = spot.tries;
+            let Some(flips) = spot.flips else {
+                return o;
+            };
+            let j = spot.tries - 1;
+            let weight = self.word.weigh(j, test_words::weight_in(tests[j]), &flips);
+            o = judged(self.word, o, weight, flips);
+            if o.is_sure() {
                 return o;
             }
         }
+        o
     }
-    o
-}
 
-// All tries, unless one of them ends the search.
-pub fn search(c: Code, tables: &[u32], s: &[u8], keys: Keys, p: usize) -> Outcome
-    requires { Ready c tables.now s.now keys p }
-    ensures { (outcome_of p s.now result ≡ soft_stage (code_of c) p s.now) × Sound c.n result.pick }
-{
-    let base = hard_stage::syndromes(c, tables, s, 4) as u64;
-    let tests = [base];
-    let o = try_on(c, tables, s, keys, p, &tests, untried());
-    if o.sure {
-        return o;
+    // The tries after that of test word 0: each weak position doubles the test words, as far as the search gets.
+    fn search_on(&self, base: u64, start: Outcome) -> Outcome
+        requires base { base ≡ syndromes_of (code_of (code_in self.now.tables.now)) (hard_bits self.now.word.now.symbols.now) }
+        requires tried { Tried (code_of (code_in self.now.tables.now)) self.now.word.now.p self.now.word.now.symbols.now start × IsUnsure start × (start.tries ≡ 1) }
+        ensures { Tried (code_of (code_in self.now.tables.now)) self.now.word.now.p self.now.word.now.symbols.now result × (IsUnsure result → result.tries ≡ 2 ^ self.now.word.now.p) }
+    {
+        let p = self.word.p;
+        let mut tests = [base; 64];
+        let mut o = start;
+        let mut to = 1;
+        for (b, key) in self.word.keys.at[..p].iter().enumerate() {
+            test_words::double(&self.tables.field, *key, to, &mut tests);
+            to = 2 * to;
+            if due(b + 1, p) {
+                o = self.try_on(&tests[..to], o);
+                if o.is_sure() {
+                    return o;
+                }
+            }
+        }
+        o
     }
-    if p == 0 {
-        return o;
+
+    // All tries, unless one of them ends the search.
+    pub fn run(&self) -> Outcome
+        ensures { (outcome_of self.now.word.now.p self.now.word.now.symbols.now result ≡ soft_stage (code_of (code_in self.now.tables.now)) self.now.word.now.p self.now.word.now.symbols.now) × IsSound (code_in self.now.tables.now).n result }
+    {
+        let base = u64::from(hard_stage::syndromes(&self.tables.field, self.word.symbols, 4));
+        let start = Outcome {
+            tries: 0,
+            best: Best::Nothing,
+        };
+        let o = self.try_on(&[base], start);
+        if o.is_sure() || self.word.p == 0 {
+            return o;
+        }
+        self.search_on(base, o)
     }
-    search_on(c, tables, s, keys, p, base, o)
 }

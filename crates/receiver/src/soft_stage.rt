@@ -4,23 +4,22 @@ ghost use Rattle.std.specs.Prelude.{◌≡◌, ◌-◌, ◌*◌, ◌+◌, ◌^�
 ghost use Rattle.std.proofs.Common.{inr};
 ghost use Rattle.std.proofs.Math.IntN.{sub_ℕ};
 ghost use Rattle.galois.proofs.FieldTables.{Zeros};
-ghost use Rattle.bch.specs.Words.{Bits, Distinct, flipped_at};
+ghost use Rattle.bch.specs.Words.{Bits, Below, Distinct, flipped_at};
 ghost use Rattle.bch.proofs.codes.Behind.{flipped_from};
-ghost use Rattle.bch.proofs.tables.Placing.{Placed};
 ghost use Rattle.chase.specs.Soft.{hard_bits, soft_stage, soft_written};
 ghost use Rattle.chase.specs.Word.{test, Symbols};
 ghost use Rattle.chase.proofs.test_words.TestWords.{chosen};
-ghost use Rattle.chase.proofs.search.Ready.{Ready, places_of};
+ghost use Rattle.chase.proofs.search.Ready.{places_of};
 ghost use Rattle.refusal.specs.Named.{code_of, Made};
 ghost use Rattle.receiver.specs.Answer.{soft_of};
 ghost use Rattle.receiver.specs.Located.{flips_of};
-ghost use Rattle.receiver.specs.Search.{outcome_of, written_from, Sound, told};
-ghost use Rattle.receiver.specs.Tables.{Filled};
+ghost use Rattle.receiver.specs.Search.{outcome_of, written_from, IsSound, told};
+ghost use Rattle.receiver.specs.Tables.{code_in};
 
-use crate::locate::Flips;
-use crate::search::Outcome;
-use crate::{Soft, hard_stage, least_keys, search, tables};
-use ranking::Keys;
+use crate::least_keys::{self, Ranked};
+use crate::search::{Best, Outcome, Pick, Search};
+use crate::tables::{self, Field, Tables};
+use crate::{Found, Soft, hard_stage};
 use refusal::Code;
 
 // The hard bits of the symbols from `from` on.
@@ -28,39 +27,34 @@ fn write_bits(s: &[u8], from: usize, out: &mut [u8])
     requires { from + length out.old ≡ length s.now }
     ensures { out.new ≡ drop from (hard_bits s.now) }
 {
-    let mut i = 0;
-    while i < out.len() {
-        out[i] = s[from + i] / 16;
-        i += 1;
+    let symbols = &s[from..];
+    for (i, bit) in out.iter_mut().enumerate() {
+        *bit = symbols[i] / 16;
     }
 }
 
 // Flips the weak positions that test word j flips, in the bits of a word from `from` on.
-fn flip_weak(out: &mut [u8], from: usize, keys: Keys, p: usize, j: usize)
-    requires { Bits out.old × (p ≤ 6) × (length keys.at ≡ 6) × Distinct (from + length out.old) (places_of keys.at p) }
-    ensures { out.new ≡ flipped_from from (chosen j (places_of keys.at p)) out.old }
+fn flip_weak(out: &mut [u8], from: usize, word: &Ranked, j: usize)
+    requires { Bits out.old × Distinct (from + length out.old) (places_of word.now.keys.at word.now.p) }
+    ensures { out.new ≡ flipped_from from (chosen j (places_of word.now.keys.at word.now.p)) out.old }
 {
-    let at = keys.at;
     let mut r = j;
-    let mut k = 0;
-    while k < p {
+    for key in &word.keys.at[..word.p] {
         if r % 2 == 1 {
-            hard_stage::flip(out, from, least_keys::place_of(at[k]));
+            hard_stage::flip(out, from, least_keys::place_of(*key));
         }
-        r = r / 2;
-        k += 1;
+        r /= 2;
     }
 }
 
 // The codeword of a candidate from `from` on: test word j flipped at f.
-fn write_word(s: &[u8], keys: Keys, p: usize, j: usize, f: Flips, from: usize, out: &mut [u8])
-    requires ready { Ready s.now keys.at p }
-    requires out_value { (from + length out.old ≡ length s.now) × Placed (length s.now) f.count f.at }
-    ensures { out.new ≡ drop from (flipped_at (flips_of f) (test p s.now j)) }
+fn write_word(word: &Ranked, pick: &Pick, from: usize, out: &mut [u8])
+    requires { (from + length out.old ≡ length word.now.symbols.now) × Below (length word.now.symbols.now) (flips_of pick.now.flips) }
+    ensures { out.new ≡ drop from (flipped_at (flips_of pick.now.flips) (test word.now.p word.now.symbols.now pick.now.place)) }
 {
-    write_bits(s, from, out);
-    flip_weak(out, from, keys, p, j);
-    hard_stage::flip_at(out, from, f);
+    write_bits(word.symbols, from, out);
+    flip_weak(out, from, word, pick.place);
+    hard_stage::flip_at(out, from, &pick.flips);
 }
 
 // A - L.
@@ -71,85 +65,74 @@ fn margin(a: u32, l: u32) -> i32
     a as i32 - l as i32
 }
 
+// What is found, as the caller's answer has it.
+fn found(pick: &Pick, tries: usize) -> Found
+    requires { (pick.now.weight.sum < 65536) × (pick.now.allowed < 65536) }
+    ensures { result ≡ found_by pick.now tries }
+{
+    Found {
+        distance: pick.weight.sum as usize,
+        margin: margin(pick.allowed, pick.weight.sum),
+        flips: pick.weight.q as usize,
+        place: pick.place,
+        tries,
+    }
+}
+
 // The outcome of the search as the caller's answer.
-fn tell(o: Outcome) -> Soft
-    requires { (o.pick.sum < 65536) × (o.pick.allowed < 65536) }
+fn tell(n: usize, o: Outcome) -> Soft
+    requires { IsSound n o }
     ensures { result ≡ told o }
 {
-    let located = o.pick.flips.found;
-    if !located {
-        return Soft::Lost { tries: o.tries };
-    }
-    let distance = o.pick.sum as usize;
-    let flips = o.pick.q as usize;
-    let gap = margin(o.pick.allowed, o.pick.sum);
-    if o.sure {
-        return Soft::Sure {
-            distance: distance,
-            margin: gap,
-            flips: flips,
-            place: o.pick.place,
-            tries: o.tries,
-        };
-    }
-    Soft::Fair {
-        distance: distance,
-        margin: gap,
-        flips: flips,
-        place: o.pick.place,
-        tries: o.tries,
+    match o.best {
+        Best::Nothing => Soft::Lost { tries: o.tries },
+        Best::Fair(pick) => Soft::Fair(found(&pick, o.tries)),
+        Best::Sure(pick) => Soft::Sure(found(&pick, o.tries)),
     }
 }
 
 // The soft stage with tables that are filled: the outcome is known before the buffer is written, with the codeword from `from` on.
-pub fn decode_word(
-    c: Code,
-    tables: &[u32],
-    p: usize,
-    s: &[u8],
-    from: usize,
-    out: &mut [u8],
-) -> Outcome
-    requires { Filled c tables.now × (p ≤ 6) × (length s.now ≡ c.n) × Symbols s.now × (from + length out.old ≡ c.n) }
-    ensures answer { (outcome_of p s.now result ≡ soft_stage (code_of c) p s.now) × Sound c.n result.pick }
-    ensures out { out.new ≡ written_from from (soft_stage (code_of c) p s.now) out.old }
+pub fn decode_word(tables: &Tables, p: usize, s: &[u8], from: usize, out: &mut [u8]) -> Outcome
+    requires { (p ≤ 6) × (length s.now ≡ (code_in tables.now).n) × Symbols s.now × (from + length out.old ≡ (code_in tables.now).n) }
+    ensures answer { (outcome_of p s.now result ≡ soft_stage (code_of (code_in tables.now)) p s.now) × IsSound (code_in tables.now).n result }
+    ensures out { out.new ≡ written_from from (soft_stage (code_of (code_in tables.now)) p s.now) out.old }
 {
-    let keys = least_keys::keys_of(s, c.distance(), p);
-    let o = search::search(c, tables, s, keys, p);
-    let found = o.pick.flips.found;
-    if !found {
-        return o;
+    let word = least_keys::ranked(s, tables.field.code.distance(), p);
+    let search = Search {
+        tables,
+        word: &word,
+    };
+    let o = search.run();
+    if let Some(pick) = o.pick() {
+        write_word(&word, &pick, from, out);
     }
-    write_word(s, keys, p, o.pick.place, o.pick.flips, from, out);
     o
 }
 
 // The soft stage, with room for its tables.
-fn decode_in(c: Code, tables: &mut [u32], p: usize, s: &[u8], codeword: &mut [u8]) -> Soft
-    requires made { Made c × (3 * 2 ^ c.m + 16 ≤ length tables.old) × Zeros tables.old }
+fn decode_in(c: Code, numbers: &mut [u32], p: usize, s: &[u8], codeword: &mut [u8]) -> Soft
+    requires made { Made c × (3 * 2 ^ c.m + 16 ≤ length numbers.old) × Zeros numbers.old }
     requires p_bound { (p ≤ 6) × (length s.now ≡ c.n) × (length codeword.old ≡ c.n) × Symbols s.now }
-    ensures answer { soft_of result codeword.new ≡ inr (soft_stage (code_of c) p s.now) }
+    ensures answer { soft_of (Ok result) codeword.new ≡ inr (soft_stage (code_of c) p s.now) }
     ensures codeword { codeword.new ≡ soft_written (soft_stage (code_of c) p s.now) codeword.old }
 {
-    tables::fill_field(c, tables);
-    tables::fill_roots(c, tables);
-    tell(decode_word(c, tables, p, s, 0, codeword))
+    tables::fill_field(c, numbers);
+    tables::fill_roots(c, numbers);
+    let tables = Tables {
+        field: Field { code: c, numbers },
+    };
+    tell(c.n, decode_word(&tables, p, s, 0, codeword))
 }
 
 // The soft stage, with tables of its own, as large as m asks for.
 pub fn decode(c: Code, p: usize, s: &[u8], codeword: &mut [u8]) -> Soft
     requires { Made c × (p ≤ 6) × (length s.now ≡ c.n) × (length codeword.old ≡ c.n) × Symbols s.now }
-    ensures answer { soft_of result codeword.new ≡ inr (soft_stage (code_of c) p s.now) }
+    ensures answer { soft_of (Ok result) codeword.new ≡ inr (soft_stage (code_of c) p s.now) }
     ensures codeword { codeword.new ≡ soft_written (soft_stage (code_of c) p s.now) codeword.old }
 {
-    if c.m <= 6 {
-        let mut tables = [0u32; 208];
-        return decode_in(c, &mut tables, p, s, codeword);
+    match c.m {
+        0..=6 => decode_in(c, &mut [0; 208], p, s, codeword),
+        7 | 8 => decode_in(c, &mut [0; 784], p, s, codeword),
+        _ => decode_in(c, &mut [0; 3088], p, s, codeword),
     }
-    if c.m <= 8 {
-        let mut tables = [0u32; 784];
-        return decode_in(c, &mut tables, p, s, codeword);
-    }
-    let mut tables = [0u32; 3088];
-    decode_in(c, &mut tables, p, s, codeword)
 }

@@ -8,13 +8,13 @@
 // A sum of exponents is folded once, and is then at most seven beyond the period: so the first eight entries stand again behind it.
 //
 // The slice is a local array of the stage that fills it: of 208, 784 or 3,088 numbers by m, since an array's length is part of its type;
-// several words always have the largest, which is cleared once. What it holds is one predicate, `CodeTables` (bch), for m up to 10.
-// `Fielded` and `Filled` add that the code's record is made.
+// several words always have the largest, which is cleared once. What it holds is one predicate, `CodeTables` (bch), for m up to 10. Two types
+// say how far it is filled: `Field`, with the tables of the field, and `Tables`, with the roots too. (While it is filled, it is lent for
+// writing and each step leaves it otherwise, so that no type says what it holds: there the code stands beside it.)
 ghost use Rattle.std.specs.Prelude.{◌≡◌, ◌≢◌, ◌+◌, ◌-◌, ◌*◌, ◌%◌, ◌<◌, ◌≤◌, ◌^◌, min, length};
 ghost use Rattle.galois.specs.Field.{alpha, double, poly};
 ghost use Rattle.galois.proofs.FieldTables.{Zeros};
 ghost use Rattle.bch.proofs.tables.CodeTables.{folded, reduced as CodeTables·reduced, log_in, powers_in, roots_in};
-ghost use Rattle.bch.proofs.tables.RootFills.{behind as RootFills·behind};
 ghost use Rattle.bch.proofs.tables.TableFills.{FieldPart, stage, Adds};
 ghost use Rattle.bch.proofs.tables.TableLoops.{Again, FieldFilled, PairPart, RootPart, Rootless};
 ghost use Rattle.refusal.specs.Named.{Made};
@@ -22,12 +22,55 @@ ghost use Rattle.receiver.specs.Tables.{Fielded, Filled};
 
 use refusal::Code;
 
-// An exponent below eight periods, folded: 2^m and 1 are the same exponent.
-pub fn fold(c: Code, x: usize) -> usize
-    requires { Made c × (x < 8 * (2 ^ c.m - 1)) }
-    ensures { (result ≡ folded c.m x) × (result < 2 ^ c.m + 7) }
-{
-    (x & c.period) + (x >> c.m)
+// A code with the tables of its field: logarithms and powers.
+#[derive(Clone, Copy)]
+pub struct Field<'a> {
+    pub code: Code,
+    pub numbers: &'a [u32],
+    ghost fielded: { Fielded code numbers.now },
+}
+
+impl<'a> Field<'a> {
+    // An exponent below eight periods, folded: 2^m and 1 are the same exponent.
+    pub fn fold(&self, x: usize) -> usize
+        requires { x < 8 * (2 ^ self.now.code.m - 1) }
+        ensures { (result ≡ folded self.now.code.m x) × (result < 2 ^ self.now.code.m + 7) }
+    {
+        (x & self.code.period) + (x >> self.code.m)
+    }
+
+    // The logarithm of x.
+    pub fn log_of(&self, x: usize) -> usize
+        requires { x < 2 ^ self.now.code.m }
+        ensures { (result ≡ log_in self.now.numbers.now x) × (result ≤ 2 ^ self.now.code.m + 7) × (x ≢ 0 → result < 2 ^ self.now.code.m - 1) }
+    {
+        self.numbers[x] as usize
+    }
+
+    // α^e, α^3e and α^5e, of an exponent that is folded.
+    pub fn powers_of(&self, e: usize) -> u32
+        requires { e ≤ 2 ^ self.now.code.m + 7 }
+        ensures { result ≡ powers_in self.now.code.m self.now.numbers.now e }
+    {
+        self.numbers[self.code.powers + e]
+    }
+}
+
+// A code with all its tables: the roots too.
+#[derive(Clone, Copy)]
+pub struct Tables<'a> {
+    pub field: Field<'a>,
+    ghost filled: { Filled field.code field.numbers.now },
+}
+
+impl<'a> Tables<'a> {
+    // The logarithms of two roots, of an exponent that is folded.
+    pub fn roots_of(&self, e: usize) -> u32
+        requires { e < 2 ^ self.now.field.code.m + 7 }
+        ensures { result ≡ roots_in self.now.field.code.m self.now.field.numbers.now e }
+    {
+        self.field.numbers[self.field.code.roots + e]
+    }
 }
 
 // An exponent below two periods, below one.
@@ -35,47 +78,6 @@ pub fn reduced(period: usize, e: usize) -> usize
     ensures { (result ≡ CodeTables·reduced period e) × (e < 2 * period → result < period) }
 {
     if e < period { e } else { e - period }
-}
-
-// The logarithm of x.
-pub fn log_of(c: Code, tables: &[u32], x: usize) -> usize
-    requires { Fielded c tables.now × (x < 2 ^ c.m) }
-    ensures { (result ≡ log_in tables.now x) × (result ≤ 2 ^ c.m + 7) × (x ≢ 0 → result < 2 ^ c.m - 1) }
-{
-    tables[x] as usize
-}
-
-// α^e, α^3e and α^5e, of an exponent that is folded.
-pub fn powers_of(c: Code, tables: &[u32], e: usize) -> u32
-    requires { Fielded c tables.now × (e ≤ 2 ^ c.m + 7) }
-    ensures { result ≡ powers_in c.m tables.now e }
-{
-    let at = c.powers + e;
-    tables[at]
-}
-
-// The logarithms of two roots, of an exponent that is folded.
-pub fn roots_of(c: Code, tables: &[u32], e: usize) -> u32
-    requires { Filled c tables.now × (e < 2 ^ c.m + 7) }
-    ensures { result ≡ roots_in c.m tables.now e }
-{
-    let at = c.roots + e;
-    tables[at]
-}
-
-// A number in 32 bits.
-fn narrow(x: usize) -> u32
-    requires { x < 4294967296 }
-    ensures { result ≡ x }
-{
-    x as u32
-}
-
-// A number in 64 bits.
-fn wide(x: u32) -> usize
-    ensures { result ≡ x }
-{
-    x as usize
 }
 
 // α times a.
@@ -88,126 +90,93 @@ fn twice(m: usize, top: usize, g: usize, a: usize) -> usize
 }
 
 // The logarithms, and the powers below the period.
-fn fill_logs(c: Code, tables: &mut [u32])
-    requires { Made c × (3 * 2 ^ c.m + 16 ≤ length tables.old) × Zeros tables.old }
-    ensures { FieldPart c.m (alpha c.m) (2 ^ c.m - 1) tables.new }
+fn fill_logs(c: Code, numbers: &mut [u32])
+    requires { Made c × (3 * 2 ^ c.m + 16 ≤ length numbers.old) × Zeros numbers.old }
+    ensures { FieldPart c.m (alpha c.m) (2 ^ c.m - 1) numbers.new }
 {
-    let period = c.period;
-    let powers = c.powers;
     let mut x = 1;
-    let mut i = 0;
-    while i < period {
-        tables[x] = narrow(i);
-        tables[powers + i] = narrow(x);
-        x = twice(c.m, powers, c.polynomial, x);
-        i += 1;
+    for i in 0..c.period {
+        numbers[x] = i as u32;
+        numbers[c.powers + i] = x as u32;
+        x = twice(c.m, c.powers, c.polynomial, x);
     }
-    tables[0] = narrow(period + 8);
+    numbers[0] = (c.period + 8) as u32;
 }
 
-// Where the code has more than t powers: adds α^(d i), times the scale, to each power i. (The exponent goes on in steps of d, which is
-// faster than to work d i out.)
-fn add_powers(c: Code, t: usize, d: usize, scale: u32, tables: &mut [u32])
-    requires { Made c × Adds c.m t d scale × FieldPart c.m (stage c.m (min t c.t)) (2 ^ c.m - 1) tables.old }
-    ensures { FieldPart c.m (stage c.m (min (t + 1) c.t)) (2 ^ c.m - 1) tables.new }
+// Where the code has more than t powers: adds α^(d i), times the scale, to each power i.
+fn add_powers(c: Code, t: usize, d: usize, scale: u32, numbers: &mut [u32])
+    requires { Made c × Adds c.m t d scale × FieldPart c.m (stage c.m (min t c.t)) (2 ^ c.m - 1) numbers.old }
+    ensures { FieldPart c.m (stage c.m (min (t + 1) c.t)) (2 ^ c.m - 1) numbers.new }
 {
     if c.t <= t {
         return;
     }
-    let period = c.period;
     let mut e = 0;
-    let mut i = 0;
-    while i < period {
-        while e < period {
-            let x = tables[c.powers + e] % 1024;
-            tables[c.powers + i] += scale * x;
-            e += d;
-            i += 1;
-        }
-        e -= period;
+    for i in 0..c.period {
+        numbers[c.powers + i] += scale * (numbers[c.powers + e] % 1024);
+        e = reduced(c.period, e + d);
     }
 }
 
 // Where t = 2, for w^2 + w, by its logarithm: the logarithms of w and w + 1. (The even w are enough: w + 1 has the same value.)
-fn fill_quadratics(c: Code, tables: &mut [u32])
-    requires { Made c × FieldFilled c.m c.t tables.old × Rootless c.m tables.old }
-    ensures { PairPart c.m c.t tables.new }
+fn fill_quadratics(c: Code, numbers: &mut [u32])
+    requires { Made c × FieldFilled c.m c.t numbers.old × Rootless c.m numbers.old }
+    ensures { PairPart c.m c.t numbers.new }
 {
     if c.t != 2 {
         return;
     }
-    let period = c.period;
-    let mut w = 2;
-    while w < period {
-        let a = tables[w];
-        let b = tables[w + 1];
-        let e = reduced(period, wide(a) + wide(b));
-        tables[c.roots + e] = a + 1024 * b;
-        w += 2;
+    for w in (2..c.period).step_by(2) {
+        let a = numbers[w];
+        let b = numbers[w + 1];
+        let e = reduced(c.period, (a + b) as usize);
+        numbers[c.roots + e] = a + 1024 * b;
     }
 }
 
-// e - d below the period.
-fn behind(e: usize, d: usize, period: usize) -> usize
-    requires { (e < period) × (d < period) × (period ≤ 1024) }
-    ensures { (result ≡ RootFills·behind period e d) × (result < period) }
-{
-    if d <= e { e - d } else { e + period - d }
-}
-
 // Where t = 3, for w^3 / (w + 1), by its logarithm: the logarithms of two such w, the last ones.
-fn fill_kappas(c: Code, tables: &mut [u32])
-    requires { Made c × PairPart c.m c.t tables.old }
-    ensures { RootPart c.m c.t tables.new }
+fn fill_kappas(c: Code, numbers: &mut [u32])
+    requires { Made c × PairPart c.m c.t numbers.old }
+    ensures { RootPart c.m c.t numbers.new }
 {
     if c.t != 3 {
         return;
     }
-    let period = c.period;
-    let powers = c.powers;
     let mut e = 3;
-    let mut l = 1;
-    while l < period {
-        while e < period {
-            let x = wide(tables[powers + l] % 1024 ^ 1);
-            let at = c.roots + behind(e, wide(tables[x]), period);
-            tables[at] = tables[at] % 1024 * 1024 + narrow(l);
-            e += 3;
-            l += 1;
-        }
-        e -= period;
+    for l in 1..c.period {
+        let x = numbers[c.powers + l] % 1024 ^ 1;
+        let k = reduced(c.period, e + c.period - numbers[x as usize] as usize);
+        let at = c.roots + k;
+        numbers[at] = numbers[at] % 1024 * 1024 + l as u32;
+        e = reduced(c.period, e + 3);
     }
 }
 
 // The first eight entries from `from` on again behind the period.
-fn wrap(from: usize, period: usize, tables: &mut [u32])
-    requires { (8 ≤ period) × (from + period + 8 ≤ length tables.old) }
-    ensures { Again period from 8 tables.old tables.new }
+fn wrap(from: usize, period: usize, numbers: &mut [u32])
+    requires { (8 ≤ period) × (from + period + 8 ≤ length numbers.old) }
+    ensures { Again period from 8 numbers.old numbers.new }
 {
-    let mut i = 0;
-    while i < 8 {
-        tables[from + period + i] = tables[from + i];
-        i += 1;
-    }
+    numbers.copy_within(from..from + 8, from + period);
 }
 
 // The tables of the field, where all are zeros before.
-pub fn fill_field(c: Code, tables: &mut [u32])
-    requires { Made c × (3 * 2 ^ c.m + 16 ≤ length tables.old) × Zeros tables.old }
-    ensures { Fielded c tables.new × Rootless c.m tables.new }
+pub fn fill_field(c: Code, numbers: &mut [u32])
+    requires { Made c × (3 * 2 ^ c.m + 16 ≤ length numbers.old) × Zeros numbers.old }
+    ensures { Fielded c numbers.new × Rootless c.m numbers.new }
 {
-    fill_logs(c, tables);
-    add_powers(c, 1, 3, 1024, tables);
-    add_powers(c, 2, 5, 1048576, tables);
-    wrap(c.powers, c.period, tables);
+    fill_logs(c, numbers);
+    add_powers(c, 1, 3, 1024, numbers);
+    add_powers(c, 2, 5, 1048576, numbers);
+    wrap(c.powers, c.period, numbers);
 }
 
 // The roots, where the field's tables are filled.
-pub fn fill_roots(c: Code, tables: &mut [u32])
-    requires { Fielded c tables.old × Rootless c.m tables.old }
-    ensures { Filled c tables.new }
+pub fn fill_roots(c: Code, numbers: &mut [u32])
+    requires { Fielded c numbers.old × Rootless c.m numbers.old }
+    ensures { Filled c numbers.new }
 {
-    fill_quadratics(c, tables);
-    fill_kappas(c, tables);
-    wrap(c.roots, c.period, tables);
+    fill_quadratics(c, numbers);
+    fill_kappas(c, numbers);
+    wrap(c.roots, c.period, numbers);
 }

@@ -4,10 +4,9 @@ ghost use Rattle.std.specs.Prelude.{◌≡◌, ◌+◌, ◌*◌, ◌/◌, ◌%�
 ghost use Rattle.chase.proofs.search.Ready.{flipped_more};
 ghost use Rattle.chase.proofs.test_words.Doublings.{Doubled, Small};
 ghost use Rattle.refusal.specs.Named.{code_of};
-ghost use Rattle.receiver.specs.Tables.{Fielded};
 
-use crate::{least_keys, tables};
-use refusal::Code;
+use crate::least_keys;
+use crate::tables::Field;
 
 // The syndromes in a test word.
 pub fn syndromes_in(test: u64) -> u32
@@ -27,20 +26,19 @@ pub fn weight_in(test: u64) -> u32
 fn flip_of(key: u16) -> u64
     ensures { result ≡ (65536 + key / 1024) * 4294967296 }
 {
-    (65536 + (key / 1024) as u64) * 4294967296
+    (65536 + u64::from(least_keys::held(key))) * 4294967296
 }
 
 // As many test words again, which flip the position of one key more.
-pub fn double(c: Code, tables: &[u32], key: u16, size: usize, tests: &mut [u64])
-    requires fielded { Fielded c tables.now × (key % 1024 < c.n) }
+pub fn double(field: &Field, key: u16, size: usize, tests: &mut [u64])
+    requires placed { key % 1024 < field.now.code.n }
     requires size_in_bounds { (2 * size ≤ length tests.old) × Small 576460752303423488 size tests.old }
-    ensures { Doubled (flipped_more (code_of c) key) size tests.old tests.new }
+    ensures { Doubled (flipped_more (code_of field.now.code) key) size tests.old tests.new }
 {
-    let v = tables::powers_of(c, tables, least_keys::place_of(key)) as u64;
+    let v = u64::from(field.powers_of(least_keys::place_of(key)));
     let w = flip_of(key);
-    let mut i = 0;
-    while i < size {
-        tests[size + i] = (tests[i] ^ v) + w;
-        i += 1;
+    let (made, more) = tests.split_at_mut(size);
+    for (i, test) in more[..size].iter_mut().enumerate() {
+        *test = (made[i] ^ v) + w;
     }
 }
