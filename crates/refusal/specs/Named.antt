@@ -1,16 +1,14 @@
 -- The record of a code, and what the check of the settings answers. Assumes nothing.
-use Rattle.std.specs.Prelude.{◌+◌, ◌-◌, ◌*◌, ◌^◌, ◌≤◌, ◌≡◌, ◌⊎◌, [], ◌∷◌, ◌++◌}
-use Rattle.std.proofs.Common.{inl, inr}
+use Rattle.std.specs.Prelude.{◌+◌, ◌-◌, ◌*◌, ◌^◌, ◌≤◌, ◌≡◌, ◌⊎◌, [], ◌∷◌, ◌++◌, Result}
 use Rattle.std.proofs.Math.Option.{Option}
 use Rattle.galois.specs.Field.{poly}
 use Rattle.bch.specs.Code.{Code, code, message_length, design_distance}
 use Rattle.bch.proofs.codes.Settings.{Lawful}
 use Rattle.take_format.specs.Refusal.{Refusal, first_of, settings}
 use Rattle.take_format.specs.Calls.{answered}
-use Rattle.refusal.specs.Checked.{refusal_of}
+use Rattle.refusal.specs.Checked.{answer_of}
 use Rattle.refusal.specs.declared.Code as struct
-use Rattle.refusal.specs.declared.Named.{Named}
-use Rattle.refusal.specs.declared.Named.TheVariants.{Refused, Code as Named-as-Code}
+use Rattle.refusal.specs.declared.Refusal as refusal
 
 -- the record of a code
 abbrev pub record_of : Code → struct.Code
@@ -32,9 +30,8 @@ abbrev pub code_of : struct.Code → Code
 code_of c = code c.m c.t c.n
 
 -- what settings name: a refusal, or a code's record
-unfoldable pub named_of : Named → Refusal ⊎ struct.Code
-named_of (Refused r) = inl (refusal_of r)
-named_of (Named-as-Code c) = inr c
+abbrev pub named_of : Result struct.Code refusal.Refusal → Refusal ⊎ struct.Code
+named_of = answer_of (λ c. c)
 
 -- what the settings of a code name, where a later check passes too
 abbrev pub named_by : Code → Option Refusal → Refusal ⊎ struct.Code

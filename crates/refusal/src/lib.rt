@@ -7,74 +7,76 @@
 // `requires`.
 #![tactic(auto)]
 
-ghost use Rattle.std.specs.Prelude.{◌≡◌, ◌*◌, ◌≤◌, ◌^◌, drop};
-ghost use Rattle.std.proofs.Common.{inl};
+ghost use Rattle.std.specs.Prelude.{◌≡◌, ◌*◌, ◌≤◌, ◌^◌, All, drop, position, nat_lt, Some};
 ghost use Rattle.galois.specs.Field.{poly};
 ghost use Rattle.bch.specs.Code.{code, word_length, message_length};
-ghost use Rattle.take_format.specs.Refusal.{first_of, refused, unless_at_most, bits_check, symbols_check, words_check};
+ghost use Rattle.take_format.specs.Refusal.{first_of, unless_at_most, bits_check, symbols_check, words_check};
 ghost use Rattle.take_format.specs.Refusal.{settings as Refusal·settings};
 ghost use Rattle.take_format.specs.Calls.{answered};
-ghost use Rattle.refusal.specs.Checked.{checked, AtMost};
+ghost use Rattle.refusal.specs.Checked.{number_of, text_of, checked};
 ghost use Rattle.refusal.specs.Named.{named_of, named_by, record_of, code_of, Made};
 
-// The numbers, by their cause. (The names are the C header's without its prefix.)
-pub const REFUSED_M: usize = 1;
+use std::fmt;
 
-pub const REFUSED_T: usize = 2;
+// What is refused, by the number of document 01. (The names are those of the C header, without its prefix.)
+#[derive(Clone, Copy, Debug, PartialEq, Eq)]
+pub enum Cause {
+    M = 1,
+    T = 2,
+    N = 3,
+    Depth = 4,
+    Ladder = 5,
+    InputLength = 6,
+    OutputLength = 7,
+    Bit = 8,
+    Symbol = 9,
+    Kind = 10,
+    Level = 11,
+    TakeHeader = 12,
+    TakeZero = 13,
+    TakeLength = 14,
+}
 
-pub const REFUSED_N: usize = 3;
+impl Cause {
+    // Its number.
+    pub fn number(self) -> usize
+        ensures value { result ≡ number_of self }
+        ensures bounds { (1 ≤ result) × (result ≤ 14) }
+    {
+        self as usize
+    }
+}
 
-pub const REFUSED_DEPTH: usize = 4;
-
-pub const REFUSED_LADDER: usize = 5;
-
-pub const REFUSED_INPUT_LENGTH: usize = 6;
-
-pub const REFUSED_OUTPUT_LENGTH: usize = 7;
-
-pub const REFUSED_BIT: usize = 8;
-
-pub const REFUSED_SYMBOL: usize = 9;
-
-pub const REFUSED_KIND: usize = 10;
-
-pub const REFUSED_LEVEL: usize = 11;
-
-pub const REFUSED_TAKE_HEADER: usize = 12;
-
-pub const REFUSED_TAKE_ZERO: usize = 13;
-
-pub const REFUSED_TAKE_LENGTH: usize = 14;
-
-// A refusal: the number of its cause, and the place of what is refused.
-#[derive(Clone, Copy)]
+// A refusal: its cause, and the place of what is refused.
+#[derive(Clone, Copy, Debug, PartialEq, Eq)]
 pub struct Refusal {
-    pub number: usize,
+    pub cause: Cause,
     pub place: usize,
 }
 
-// What a check answers.
-#[derive(Clone, Copy)]
-pub enum Check {
-    Refused(Refusal),
-    Passed,
+// A cause alone is refused at place 0.
+impl From<Cause> for Refusal {
+    ghost from_gives = { λ cause r. r ≡ record { cause = cause; place = 0 } };
+
+    fn from(cause: Cause) -> Refusal {
+        Refusal { cause, place: 0 }
+    }
 }
 
-// Refused with a number, at a place.
-pub fn refuse(number: usize, place: usize) -> Check
-    ensures { checked result ≡ refused number place }
-{
-    Check::Refused(Refusal {
-        number: number,
-        place: place,
-    })
+// The text of a refusal: the word `refused`, the number and the place.
+impl fmt::Display for Refusal {
+    ghost output = { λ r. Some (text_of r) };
+
+    fn fmt<W: fmt::Write>(&self, f: &mut fmt::Formatter<W>) -> fmt::Result {
+        write!(f, "refused {} {}", self.cause.number(), self.place)
+    }
 }
 
 // A code (document 01, "The codes"): the settings that name it, with what follows from them. Made by `settings`, and worked out nowhere
 // else. (The fields are public, since private functions of other crates take the record. One that is made by hand is of no use but to be
 // asked for these numbers, since every public call takes m, t and n; `Made`, which says of a record that it is a code's, is asked for by
 // private functions alone.)
-#[derive(Clone, Copy)]
+#[derive(Clone, Copy, Debug, PartialEq, Eq)]
 pub struct Code {
     pub m: usize,
     pub t: usize,
@@ -114,48 +116,25 @@ impl Code {
     }
 }
 
-// What settings name: a code, where they are not refused.
-#[derive(Clone, Copy)]
-pub enum Named {
-    Refused(Refusal),
-    Code(Code),
-}
-
-// Settings that are refused with a number.
-fn unnamed(number: usize) -> Named
-    ensures { named_of result ≡ inl (record { number = number; place = 0 }) }
-{
-    Named::Refused(Refusal {
-        number: number,
-        place: 0,
-    })
-}
-
 // The code of m, t and n, in the field of `size` elements where α is a root of the polynomial: 2, 3.
-fn over(m: usize, size: usize, polynomial: usize, t: usize, n: usize) -> Named
+fn over(m: usize, size: usize, polynomial: usize, t: usize, n: usize) -> Result<Code, Refusal>
     requires { (5 ≤ m) × (m ≤ 8) × (size ≡ 2 ^ m) × (polynomial ≡ poly m) × (size ≤ 256) }
     ensures { named_of result ≡ answered (first_of (Refusal·settings (code m t n))) (record_of (code m t n)) }
 {
-    if t < 1 {
-        return unnamed(REFUSED_T);
-    }
-    if 3 < t {
-        return unnamed(REFUSED_T);
+    if t < 1 || 3 < t {
+        return Err(Cause::T.into());
     }
     let r = m * t;
-    if n <= r {
-        return unnamed(REFUSED_N);
+    if n <= r || size <= n {
+        return Err(Cause::N.into());
     }
-    if size <= n {
-        return unnamed(REFUSED_N);
-    }
-    Named::Code(Code {
-        m: m,
-        t: t,
-        n: n,
+    Ok(Code {
+        m,
+        t,
+        n,
         k: n - r,
         d: 2 * t + 1,
-        polynomial: polynomial,
+        polynomial,
         period: size - 1,
         powers: size,
         roots: 2 * size + 8,
@@ -163,7 +142,7 @@ fn over(m: usize, size: usize, polynomial: usize, t: usize, n: usize) -> Named
 }
 
 // The code that m, t and n name: 1, 2, 3. (m picks the field's polynomial and its size.)
-pub fn settings(m: usize, t: usize, n: usize) -> Named
+pub fn settings(m: usize, t: usize, n: usize) -> Result<Code, Refusal>
     ensures { named_of result ≡ answered (first_of (Refusal·settings (code m t n))) (record_of (code m t n)) }
 {
     match m {
@@ -171,155 +150,136 @@ pub fn settings(m: usize, t: usize, n: usize) -> Named
         6 => over(m, 64, 0b1000011, t, n),
         7 => over(m, 128, 0b10001001, t, n),
         8 => over(m, 256, 0b100011101, t, n),
-        _ => unnamed(REFUSED_M),
+        _ => Err(Cause::M.into()),
     }
-}
-
-// A byte that neither is above.
-fn larger(a: u8, b: u8) -> u8
-    ensures { (a ≤ result) × (b ≤ result) }
-{
-    if a < b { b } else { a }
 }
 
 // A number that no byte is above: one pass without branches, so that bytes that are all in order cost little.
 fn highest(bytes: &[u8]) -> u8
-    ensures { AtMost result bytes.now }
+    ensures { All (λ b. b ≤ result) bytes.now }
 {
-    let mut most: u8 = 0;
-    let mut i = 0;
-    while i < bytes.len() {
-        most = larger(most, bytes[i]);
-        i += 1;
-    }
-    most
+    bytes.iter().copied().max().unwrap_or(0)
 }
 
-// The first byte above `most` from place `start` on, refused with a number.
-fn first_above(number: usize, most: u8, bytes: &[u8], start: usize) -> Check
-    ensures { checked result ≡ unless_at_most number most start (drop start bytes.now) }
+// The place of the first byte above `most`.
+fn first_above(most: u8, bytes: &[u8]) -> Option<usize>
+    ensures { result ≡ position (λ b. nat_lt most b) bytes.now }
 {
-    let mut i = start;
-    while i < bytes.len() {
-        if most < bytes[i] {
-            return refuse(number, i);
-        }
-        i += 1;
-    }
-    Check::Passed
+    bytes.iter().position(|&b| most < b)
 }
 
-// Bytes that are at most `most` from place `start` on, refused otherwise with a number at the first that is above; its place counts from
+// Bytes that are at most `most` from place `start` on, refused otherwise for a cause at the first that is above; its place counts from
 // the first of all bytes. Where there are none from `start` on, they pass.
-pub fn at_most_from(number: usize, most: u8, bytes: &[u8], start: usize) -> Check
-    ensures { checked result ≡ unless_at_most number most start (drop start bytes.now) }
+pub fn at_most_from(cause: Cause, most: u8, bytes: &[u8], start: usize) -> Result<(), Refusal>
+    ensures { checked result ≡ unless_at_most (number_of cause) most start (drop start bytes.now) }
 {
-    if bytes.len() <= start {
-        return Check::Passed;
+    let Some(rest) = bytes.get(start..) else {
+        return Ok(());
+    };
+    if highest(rest) <= most {
+        return Ok(());
     }
-    if highest(&bytes[start..]) <= most {
-        return Check::Passed;
+    match first_above(most, rest) {
+        Some(i) => Err(Refusal {
+            cause,
+            place: start + i,
+        }),
+        None => Ok(()),
     }
-    first_above(number, most, bytes, start)
-}
-
-// All bytes.
-fn at_most(number: usize, most: u8, bytes: &[u8]) -> Check
-    ensures { checked result ≡ unless_at_most number most 0 bytes.now }
-{
-    at_most_from(number, most, bytes, 0)
 }
 
 // k bits, and room for a codeword of n: 6, 7, 8.
-fn bits(k: usize, n: usize, bits: &[u8], room: usize) -> Check
+fn bits(k: usize, n: usize, bits: &[u8], room: usize) -> Result<(), Refusal>
     ensures { checked result ≡ bits_check k n bits.now room }
 {
     if bits.len() != k {
-        return refuse(REFUSED_INPUT_LENGTH, 0);
+        return Err(Cause::InputLength.into());
     }
     if room != n {
-        return refuse(REFUSED_OUTPUT_LENGTH, 0);
+        return Err(Cause::OutputLength.into());
     }
-    at_most(REFUSED_BIT, 1, bits)
+    at_most_from(Cause::Bit, 1, bits, 0)
 }
 
 // A depth, n symbols, and room for a codeword of n: 4, 6, 7, 9.
-fn symbols(depth: usize, n: usize, symbols: &[u8], room: usize) -> Check
+fn symbols(depth: usize, n: usize, symbols: &[u8], room: usize) -> Result<(), Refusal>
     ensures { checked result ≡ symbols_check depth n symbols.now room }
 {
     if 6 < depth {
-        return refuse(REFUSED_DEPTH, 0);
+        return Err(Cause::Depth.into());
     }
     if symbols.len() != n {
-        return refuse(REFUSED_INPUT_LENGTH, 0);
+        return Err(Cause::InputLength.into());
     }
     if room != n {
-        return refuse(REFUSED_OUTPUT_LENGTH, 0);
+        return Err(Cause::OutputLength.into());
     }
-    at_most(REFUSED_SYMBOL, 31, symbols)
+    at_most_from(Cause::Symbol, 31, symbols, 0)
 }
 
 // A depth p, the symbols of so many words, and room for their messages and marks: 4, 6, 7, 9.
-fn words(c: Code, p: usize, words: usize, all: &[u8], messages: usize, marks: usize) -> Check
-    requires { Made c × (words ≤ 65535) }
-    ensures { checked result ≡ words_check (code_of c) p words all.now messages marks }
+fn words(
+    c: Code,
+    p: usize,
+    count: u16,
+    all: &[u8],
+    messages: usize,
+    marks: usize,
+) -> Result<(), Refusal>
+    requires { Made c }
+    ensures { checked result ≡ words_check (code_of c) p count all.now messages marks }
 {
     if 6 < p {
-        return refuse(REFUSED_DEPTH, 0);
+        return Err(Cause::Depth.into());
     }
+    let words = usize::from(count);
     if all.len() != words * c.length() {
-        return refuse(REFUSED_INPUT_LENGTH, 0);
+        return Err(Cause::InputLength.into());
     }
-    if messages != words * c.message_length() {
-        return refuse(REFUSED_OUTPUT_LENGTH, 0);
+    if messages != words * c.message_length() || marks != words {
+        return Err(Cause::OutputLength.into());
     }
-    if marks != words {
-        return refuse(REFUSED_OUTPUT_LENGTH, 0);
-    }
-    at_most(REFUSED_SYMBOL, 31, all)
-}
-
-// The code, where a later check passes too.
-fn unless_refused(later: Check, c: Code) -> Named
-    ensures { named_of result ≡ answered (checked later) c }
-{
-    match later {
-        Check::Refused(r) => Named::Refused(r),
-        Check::Passed => Named::Code(c),
-    }
+    at_most_from(Cause::Symbol, 31, all, 0)
 }
 
 // The code of a call that takes a message's bits, with room for a codeword: 1, 2, 3, 6, 7, 8.
-pub fn of_message(m: usize, t: usize, n: usize, message: &[u8], room: usize) -> Named
+pub fn of_message(
+    m: usize,
+    t: usize,
+    n: usize,
+    message: &[u8],
+    room: usize,
+) -> Result<Code, Refusal>
     ensures { named_of result ≡ named_by (code m t n) (bits_check (message_length (code m t n)) (word_length (code m t n)) message.now room) }
 {
-    match settings(m, t, n) {
-        Named::Refused(r) => Named::Refused(r),
-        Named::Code(c) => unless_refused(bits(c.message_length(), c.length(), message, room), c),
-    }
+    let c = settings(m, t, n)?;
+    bits(c.message_length(), c.length(), message, room)?;
+    Ok(c)
 }
 
 // Of one that takes a word's bits: 1, 2, 3, 6, 7, 8.
-pub fn of_word(m: usize, t: usize, n: usize, word: &[u8], room: usize) -> Named
+pub fn of_word(m: usize, t: usize, n: usize, word: &[u8], room: usize) -> Result<Code, Refusal>
     ensures { named_of result ≡ named_by (code m t n) (bits_check (word_length (code m t n)) (word_length (code m t n)) word.now room) }
 {
-    match settings(m, t, n) {
-        Named::Refused(r) => Named::Refused(r),
-        Named::Code(c) => {
-            let long = c.length();
-            unless_refused(bits(long, long, word, room), c)
-        }
-    }
+    let c = settings(m, t, n)?;
+    bits(c.length(), c.length(), word, room)?;
+    Ok(c)
 }
 
 // Of one that takes a word's symbols and a depth: 1, 2, 3, 4, 6, 7, 9.
-pub fn of_symbols(m: usize, t: usize, n: usize, depth: usize, word: &[u8], room: usize) -> Named
+pub fn of_symbols(
+    m: usize,
+    t: usize,
+    n: usize,
+    depth: usize,
+    word: &[u8],
+    room: usize,
+) -> Result<Code, Refusal>
     ensures { named_of result ≡ named_by (code m t n) (symbols_check depth (word_length (code m t n)) word.now room) }
 {
-    match settings(m, t, n) {
-        Named::Refused(r) => Named::Refused(r),
-        Named::Code(c) => unless_refused(symbols(depth, c.length(), word, room), c),
-    }
+    let c = settings(m, t, n)?;
+    symbols(depth, c.length(), word, room)?;
+    Ok(c)
 }
 
 // Of one that takes the symbols of several words and a depth, with room for their messages and marks: 1, 2, 3, 4, 6, 7, 9.
@@ -332,11 +292,10 @@ pub fn of_words(
     all: &[u8],
     messages: usize,
     marks: usize,
-) -> Named
+) -> Result<Code, Refusal>
     ensures { named_of result ≡ named_by (code m t n) (words_check (code m t n) depth count all.now messages marks) }
 {
-    match settings(m, t, n) {
-        Named::Refused(r) => Named::Refused(r),
-        Named::Code(c) => unless_refused(words(c, depth, count as usize, all, messages, marks), c),
-    }
+    let c = settings(m, t, n)?;
+    words(c, depth, count, all, messages, marks)?;
+    Ok(c)
 }

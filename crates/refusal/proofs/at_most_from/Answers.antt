@@ -1,24 +1,63 @@
 -- Where the largest byte is not above, none is; and behind the end there is none. Assumes nothing.
-use Prim.Native.Nat.{ℕ, ◌-◌}
+use Prim.Native.Nat.{ℕ, ◌+◌, ◌-◌, ◌≤◌}
 use native.Mathlib.Omega.{arith}
-use mathlib.Core.Path.{subst}
+use mathlib.Core.Path.{◌≡◌, refl, subst, sym, ◌∙◌}
 use mathlib.Core.List.{List}
+use mathlib.Core.Option.{none}
+use Rattle.std.specs.List.{slice_range}
+use Rattle.std.specs.List.{position_or_len}
+use Rattle.std.proofs.lemmas.Bool.{ltb-true, ltb-false}
+use Rattle.std.proofs.lemmas.List.Sums.{fails_before_first}
 use lib.ListN.{length, drop, length-drop}
 use lib.Seq.{take_all}
+use Rattle.std.specs.Prelude.{Option as the_option, Bool, true, false, cond, position, nat_lt, Some, None}
+use Rattle.std.proofs.lemmas.List.Quantifiers.{position-Some}
+use Rattle.take_format.specs.Refusal.{unless_at_most, refused}
 use Rattle.take_format.proofs.checks.RefusalLaws.{all_most, above_none}
-use Rattle.refusal.specs.Checked.{checked, AtMost}
+use Rattle.refusal.specs.Checked.{checked, number_of}
+use Rattle.refusal.proofs.Laws.{first_at}
 use Rattle.refusal.proofs.at_most_from.Goals as goal
 
-pub returns-then-bytes-start : goal.returns-then-bytes-start
+-- the bytes from `start` on
+rest : (xs : List ℕ) (start : ℕ) (ys : List ℕ) → ys ≡ slice_range xs start (length xs) → ys ≡ drop start xs
+rest xs start ys e = e ∙ take_all (length xs - start) (drop start xs) (omega (arith, length-drop start xs))
+
+-- no place: no byte passes the test
+nowhere : (p : ℕ → Bool) (xs : List ℕ) → position p xs ≡ None → length xs ≤ position_or_len p xs
+nowhere p xs e = ltb-false _ _ (go (nat_lt (position_or_len p xs) (length xs)) e)
+  where
+    go : (b : Bool) → ◌≡◌ {A = the_option ℕ} (cond b (Some (position_or_len p xs)) None) None → b ≡ false
+    go true e = cc
+    go false e = refl
+
+pub returns-in_default : goal.returns-in_default
 unfolding checked
-returns-then-bytes-start c = let a = c.args in
-    above_none a.number a.most a.start a.bytes.now c.if-bytes-start.true
+returns-in_default c = let a = c.args in
+    above_none (number_of a.cause) a.most a.start a.bytes.now (omega (arith, c.in_default.ensures.lookup))
 
 pub returns-then-highest-most : goal.returns-then-highest-most
 unfolding checked
 returns-then-highest-most c = let a = c.args in
-    let h = c.highest in
-    let xs = drop a.start a.bytes.now in
-    let all = subst (λ (l : List ℕ). AtMost h.result l) (take_all (length a.bytes.now - a.start) xs
-    (omega (arith, length-drop a.start a.bytes.now))) h.ensures in
-    all_most a.number a.most a.start xs (λ i l. omega (arith, all i l))
+    let xs = c.in-Some.rest.now in
+    let is = rest a.bytes.now a.start xs c.in-Some.ensures.lookup.0.2 in
+    subst (λ (ys : List ℕ). none ≡ unless_at_most (number_of a.cause) a.most a.start ys) is
+    (all_most (number_of a.cause) a.most a.start xs (λ i l. omega (arith, c.highest.ensures i 0 l)))
+
+pub returns-in-Some-first_above : goal.returns-in-Some-first_above
+unfolding checked
+returns-in-Some-first_above c = let a = c.args in
+    let xs = c.in-Some.rest.now in
+    let i = c.in-Some-first_above.i in
+    let is = rest a.bytes.now a.start xs c.in-Some.ensures.lookup.0.2 in
+    let (l, at, before) = position-Some (λ b. nat_lt a.most b) xs i 0 (sym c.in-Some-first_above.ensures) in
+    subst (λ (ys : List ℕ). refused (number_of a.cause) (a.start + i) ≡ unless_at_most (number_of a.cause) a.most a.start ys) is
+    (first_at (number_of a.cause) a.most a.start i xs l (ltb-true _ _ at) (λ j h. ltb-false _ _ (before j h)))
+
+pub returns-in-None : goal.returns-in-None
+unfolding checked
+returns-in-None c = let a = c.args in
+    let xs = c.in-Some.rest.now in
+    let is = rest a.bytes.now a.start xs c.in-Some.ensures.lookup.0.2 in
+    let p : ℕ → Bool = λ b. nat_lt a.most b in
+    subst (λ (ys : List ℕ). none ≡ unless_at_most (number_of a.cause) a.most a.start ys) is
+    (all_most (number_of a.cause) a.most a.start xs (λ i l. ltb-false _ _ (fails_before_first p xs i 0 (omega (arith, l, nowhere p xs (sym c.in-None.ensures))))))

@@ -1,26 +1,26 @@
 -- The settings' refusal, or that of what the call takes, or the code. Assumes nothing.
 use Prim.Native.Nat.{ℕ}
-use mathlib.Core.Path.{ap, sym, ◌∙◌}
-use mathlib.Core.Option.{Option}
+use mathlib.Core.Path.{ap, ◌∙◌}
 use Rattle.bch.specs.Code.{code}
-use Rattle.take_format.specs.Refusal.{Refusal, first_of, settings, symbols_check}
-use Rattle.take_format.specs.Calls.{answered}
-use Rattle.refusal.specs.Named.{named_of}
-use Rattle.refusal.specs.declared.Code as struct
-use Rattle.refusal.proofs.Laws.{named_code, named_first, named_later}
+use Rattle.take_format.specs.Refusal.{symbols_check}
+use Rattle.refusal.proofs.Laws.{named_first, named_later, later_err, later_ok}
 use Rattle.refusal.proofs.of_symbols.Goals as goal
 
-pub returns-in-Refused : goal.returns-in-Refused
-returns-in-Refused c =
+pub returns-in_err-c : goal.returns-in_err-c
+returns-in_err-c c =
     let a = c.args in
-    named_first c.in-Refused.r (code a.m a.t a.n) _ (sym (ap named_of c.in-Refused.is) ∙ c.settings.ensures)
+    named_first _ c.in_err-c.field-0.0 (code a.m a.t a.n) _ c.from_residual.ensures.1 c.in_err-c.ensures
 
-pub returns-in-Code : goal.returns-in-Code
-returns-in-Code c =
+pub returns-in_err-symbols : goal.returns-in_err-symbols
+returns-in_err-symbols c =
     let a = c.args in
-    let w = code a.m a.t a.n in
-    let named = sym (ap named_of c.in-Code.is) ∙ c.settings.ensures in
-    let same = (named_code c.in-Code.c (first_of (settings w)) w named).1 in
-    let long = c.length.ensures ∙ ap (λ (x : struct.Code). x.n) same in
-    let check = c.symbols.ensures ∙ ap (λ (k : ℕ). symbols_check a.depth k a.word.now a.room) long in
-    named_later _ c.in-Code.c w _ named (c.unless_refused.ensures ∙ ap (λ (o : Option Refusal). answered o c.in-Code.c) check)
+    let x = c.in_ok-c.c in
+    named_later _ x (code a.m a.t a.n) (λ x. symbols_check a.depth x.n a.word.now a.room) c.in_ok-c.ensures
+    (later_err _ c.in_err-symbols.field-0.0 x _ c.from_residual-in_err-symbols.ensures.1 (c.in_err-symbols.ensures ∙ ap (λ (n : ℕ). symbols_check a.depth n a.word.now a.room) c.length.ensures))
+
+pub returns : goal.returns
+returns c =
+    let a = c.args in
+    let x = c.in_ok-c.c in
+    named_later _ x (code a.m a.t a.n) (λ x. symbols_check a.depth x.n a.word.now a.room) c.in_ok-c.ensures
+    (later_ok x _ (c.in_ok-symbols.ensures ∙ ap (λ (n : ℕ). symbols_check a.depth n a.word.now a.room) c.length.ensures))
