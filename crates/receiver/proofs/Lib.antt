@@ -1,7 +1,3 @@
 pub mod HighBits
 pub mod Margins
-pub mod Marks
-pub mod Outcomes
 pub mod Places
-pub mod Tellings
-pub mod Turns

@@ -9,6 +9,8 @@ use Rattle.refusal.specs.Checked.{refusal_of, answer_of}
 use Rattle.refusal.specs.declared.Refusal.{Refusal}
 use Rattle.receiver.specs.declared.flips.Flips.{Flips}
 use Rattle.receiver.specs.declared.Found.{Found}
+use Rattle.receiver.specs.declared.Mark as declared
+use Rattle.receiver.specs.declared.Mark.TheVariants as Mark
 use Rattle.receiver.specs.declared.Soft.{Soft}
 use Rattle.receiver.specs.declared.Soft.TheVariants.{Lost, Fair, Sure}
 use Rattle.receiver.specs.declared.Totals as struct
@@ -37,6 +39,12 @@ found_of word (Sure f) = answer_with sure f word
 
 abbrev pub soft_of : Result Soft Refusal → List ℕ → take_format.Refusal ⊎ Answer
 soft_of a word = answer_of (found_of word) a
+
+-- a mark's byte
+abbrev pub byte_of : declared.Mark → ℕ
+byte_of Mark.Lost = 0
+byte_of Mark.Fair = 1
+byte_of Mark.Sure = 2
 
 -- the five totals
 abbrev pub totals_told : struct.Totals → Totals

@@ -1,4 +1,6 @@
 pub mod Answer
+pub mod Held
 pub mod Located
 pub mod Search
+pub mod Single
 pub mod Tables

@@ -1,8 +1,7 @@
--- The positions that are located, as a record. Cited by the contracts of private functions alone. Assumes nothing.
-use Rattle.std.specs.Prelude.{ℕ, ◌/◌, ◌%◌, ◌^◌, ◌≤◌, ◌<◌, ◌≡◌, true, List, map, length, get_or, take}
-use Rattle.std.proofs.Math.Option.{Option}
+-- The positions that are located. Cited by the contracts of private functions alone. Assumes nothing.
+use Rattle.std.specs.Prelude.{ℕ, ◌/◌, ◌%◌, ◌^◌, ◌≤◌, ◌<◌, ◌≡◌, Bool, true, false, List, [], map, length, get_or, take, Option as Rust·Option, Some, None}
+use Rattle.std.proofs.Math.Option.{Option, some, none}
 use Rattle.bch.specs.Words.{Bits}
-use Rattle.bch.specs.Hard.{three_places}
 use Rattle.bch.proofs.logarithms.LogSteps.{Ordered}
 use Rattle.bch.proofs.logarithms.LogAnswers.{syndromes_of}
 use Rattle.bch.proofs.logarithms.LogBounds.{Syndromes}
@@ -12,7 +11,7 @@ use Rattle.bch.proofs.logarithms.Seeking.{Next}
 use Rattle.bch.proofs.tables.Placing.{Placed, positions}
 use Rattle.refusal.specs.Named.{code_of}
 use Rattle.refusal.specs.declared.Code as refusal
-use Rattle.receiver.specs.declared.locate.Flips.{Flips}
+use Rattle.receiver.specs.declared.flips.Flips.{Flips}
 
 -- the bits that stand so high in bytes
 abbrev pub bits_at : ℕ → List ℕ → List ℕ
@@ -22,13 +21,22 @@ bits_at shift xs = map (λ (x : ℕ). x / 2 ^ shift) xs
 abbrev pub flips_of : Flips → List ℕ
 flips_of f = take f.count f.at
 
--- its unused places are 0
-abbrev pub ZeroFilled : Flips → Type 0
-ZeroFilled f = f.at ≡ three_places (flips_of f)
+-- whether there are positions, how many, and where they stand
+unfoldable pub is_found : Rust·Option Flips → Bool
+is_found None = false
+is_found (Some f) = true
+
+unfoldable pub count_of : Rust·Option Flips → ℕ
+count_of None = 0
+count_of (Some f) = f.count
+
+unfoldable pub places_in : Rust·Option Flips → List ℕ
+places_in None = []
+places_in (Some f) = f.at
 
 -- they are those found, in rising order, or none is
-abbrev pub Located : Flips → Option (List ℕ) → Type 0
-Located f o = Ordered (positions f.found f.count f.at) o × ZeroFilled f × (f.count ≤ 3)
+abbrev pub Located : Rust·Option Flips → Option (List ℕ) → Type 0
+Located f o = Ordered (positions (is_found f) (count_of f) (places_in f)) o
 
 -- the syndromes that number j holds, below 2^32, ..
 abbrev pub sums_at : List ℕ → ℕ → ℕ
@@ -43,11 +51,15 @@ abbrev pub located_at : refusal.Code → List ℕ → List ℕ → ℕ → Optio
 located_at c tables tests j = rising_in c.m c.t c.n tables (sums_at tests j)
 
 -- after so many tries are made, those until positions are located, and the positions
-abbrev pub Sought : refusal.Code → List ℕ → List ℕ → ℕ → ℕ → Flips → Type 0
-Sought c tables tests made tries f = Next (located_at c tables tests) made (length tests) tries f.found f.count f.at
+abbrev pub Sought : refusal.Code → List ℕ → List ℕ → ℕ → ℕ → Rust·Option Flips → Type 0
+Sought c tables tests made tries f = Next (located_at c tables tests) made (length tests) tries (is_found f) (count_of f) (places_in f)
 
--- they are where the hard stage flips, for every word of these syndromes
-abbrev pub Repairing : refusal.Code → ℕ → Flips → Type 0
+-- they are where the hard stage flips a word, and places in it
+abbrev pub Repaired : refusal.Code → List ℕ → Rust·Option Flips → Type 0
+Repaired c xs f =
+    Repairs (code_of c) xs (is_found f) (count_of f) (places_in f) × (is_found f ≡ true → Placed c.n (count_of f) (places_in f))
+
+-- they are so for every word of these syndromes
+abbrev pub Repairing : refusal.Code → ℕ → Rust·Option Flips → Type 0
 Repairing c s f =
-    (xs : List ℕ) → length xs ≡ c.n → Bits xs → s ≡ syndromes_of (code_of c) xs
-    → Repairs (code_of c) xs f.found f.count f.at × (f.found ≡ true → Placed c.n f.count f.at) × ZeroFilled f
+    (xs : List ℕ) → length xs ≡ c.n → Bits xs → s ≡ syndromes_of (code_of c) xs → Repaired c xs f

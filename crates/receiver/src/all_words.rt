@@ -8,7 +8,7 @@ ghost use Rattle.take_format.proofs.checks.RefusalLaws.{WordsChecked};
 ghost use Rattle.refusal.specs.Named.{code_of, Made};
 ghost use Rattle.receiver.specs.Answer.{totals_told, byte_of};
 ghost use Rattle.receiver.specs.Search.{mark_in};
-ghost use Rattle.receiver.specs.Tables.{code_in};
+ghost use Rattle.receiver.specs.Held.{code_in};
 
 use crate::search::Outcome;
 use crate::tables::{Field, Tables};
@@ -18,7 +18,7 @@ use refusal::Code;
 // One word: its message, and 0 in its place where it is lost.
 fn decode_word(tables: &Tables, p: usize, s: &[u8], message: &mut [u8]) -> Outcome
     requires { (p ≤ 6) × (length s.now ≡ (code_in tables.now).n) × Symbols s.now × (length message.old ≡ (code_in tables.now).k) }
-    ensures answer { (byte_of (mark_in result) ≡ mark_byte (soft_stage (code_of (code_in tables.now)) p s.now).mark) × (result.tries ≡ (soft_stage (code_of (code_in tables.now)) p s.now).tries) }
+    ensures answer { (byte_of (mark_in result.best) ≡ mark_byte (soft_stage (code_of (code_in tables.now)) p s.now).mark) × (result.tries ≡ (soft_stage (code_of (code_in tables.now)) p s.now).tries) }
     ensures message { message.new ≡ Batch·message (code_of (code_in tables.now)) (soft_stage (code_of (code_in tables.now)) p s.now) }
 {
     let from = tables.field.code.length() - tables.field.code.message_length();
@@ -71,7 +71,10 @@ pub fn decode(c: Code, p: usize, symbols: &[u8], messages: &mut [u8], marks: &mu
     tables::fill_field(c, &mut numbers);
     tables::fill_roots(c, &mut numbers);
     let tables = Tables {
-        field: Field { code: c, numbers: &numbers },
+        field: Field {
+            code: c,
+            numbers: &numbers,
+        },
     };
     decode_all(&tables, p, symbols, messages, marks)
 }

@@ -1,5 +1,5 @@
 // The hard stage of one word: its syndromes, the positions to flip, and only then the codeword.
-ghost use Rattle.std.specs.Prelude.{◌≡◌, ◌+◌, ◌*◌, ◌^◌, ◌<◌, ◌≤◌, length};
+ghost use Rattle.std.specs.Prelude.{Ok, ◌≡◌, ◌+◌, ◌*◌, ◌^◌, ◌<◌, ◌≤◌, length};
 ghost use Rattle.std.proofs.Common.{inr};
 ghost use Rattle.galois.proofs.FieldTables.{Zeros};
 ghost use Rattle.bch.specs.Words.{Bits, Below};
@@ -11,7 +11,7 @@ ghost use Rattle.bch.proofs.tables.TableLoops.{Rootless};
 ghost use Rattle.take_format.specs.Calls.{hard_record};
 ghost use Rattle.refusal.specs.Named.{code_of, Made};
 ghost use Rattle.receiver.specs.Answer.{hard_of};
-ghost use Rattle.receiver.specs.Located.{bits_at, flips_of, Repairing};
+ghost use Rattle.receiver.specs.Located.{bits_at, flips_of, Repaired, Repairing};
 ghost use Rattle.receiver.specs.Tables.{Fielded};
 
 use crate::tables::{self, Field, Tables};

@@ -2,6 +2,7 @@
 ghost use Rattle.std.specs.Prelude.{◌≡◌, ◌++◌, ◌/◌, ◌%◌, ◌<◌, ◌≤◌, length};
 ghost use Rattle.chase.specs.Word.{Symbols};
 ghost use Rattle.chase.proofs.search.Ready.{Deep};
+ghost use Rattle.receiver.specs.Single.{deep_prop};
 
 use ranking::Keys;
 
@@ -12,22 +13,24 @@ pub struct Ranked<'a> {
     pub keys: Keys,
     pub d: usize,
     pub p: usize,
-    ghost deep: { Deep d symbols.now keys.at (keys.at ++ keys.more) p },
+    ghost deep: { Deep d symbols.now keys.at (keys.at ++ keys.more) p } by { deep_prop d symbols.now keys.at (keys.at ++ keys.more) p },
     ghost few: { d ≤ 8 },
 }
 
-// The word ranked, for a search at depth p.
-pub fn ranked<'a>(symbols: &'a [u8], d: usize, p: usize) -> Ranked<'a>
-    requires { Symbols symbols.now × (length symbols.now ≤ 1023) × (d ≤ 8) × (d ≤ length symbols.now) × (p ≤ 6) × (p ≤ length symbols.now) }
-    ensures symbols { result.symbols.now ≡ symbols.now }
-    ensures d { result.d ≡ d }
-    ensures p { result.p ≡ p }
-{
-    Ranked {
-        symbols,
-        keys: ranking::weakest(symbols, d.max(p)),
-        d,
-        p,
+impl<'a> Ranked<'a> {
+    // The word ranked, for a search at depth p.
+    pub fn new(symbols: &'a [u8], d: usize, p: usize) -> Ranked<'a>
+        requires { Symbols symbols.now × (length symbols.now ≤ 1023) × (d ≤ 8) × (d ≤ length symbols.now) × (p ≤ 6) × (p ≤ length symbols.now) }
+        ensures symbols { result.symbols.now ≡ symbols.now }
+        ensures d { result.d ≡ d }
+        ensures p { result.p ≡ p }
+    {
+        Ranked {
+            symbols,
+            keys: ranking::weakest(symbols, d.max(p)),
+            d,
+            p,
+        }
     }
 }
 

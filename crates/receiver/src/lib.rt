@@ -33,7 +33,6 @@ ghost use Rattle.take_format.specs.Batch.{counted_of, capped, counted_answer};
 ghost use Rattle.receiver.specs.Answer.{hard_of, soft_of, totals_told, words_of, byte_of};
 
 pub use flips::Flips;
-
 use refusal::Refusal;
 
 mod all_words;
@@ -78,9 +77,7 @@ pub struct Found {
 // nearer than (sure).
 #[derive(Clone, Copy, Debug, PartialEq, Eq)]
 pub enum Soft {
-    Lost {
-        tries: usize,
-    },
+    Lost { tries: usize },
     Fair(Found),
     Sure(Found),
 }

@@ -21,7 +21,7 @@ ghost use Rattle.bch.proofs.tables.CodeTables.{log_in, powers_in};
 ghost use Rattle.bch.proofs.logarithms.LogLocator.{pair_in, trio_in, cubes_in, kappa_in, locate_in};
 ghost use Rattle.bch.proofs.logarithms.LogBounds.{Syndromes};
 ghost use Rattle.receiver.specs.Located.{Located, AreSyndromes, Sought};
-ghost use Rattle.receiver.specs.Tables.{code_in, numbers_in};
+ghost use Rattle.receiver.specs.Held.{code_in, numbers_in};
 
 use crate::tables::{self, Field, Tables};
 use crate::{Flips, test_words};

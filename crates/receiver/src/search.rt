@@ -2,14 +2,15 @@
 //
 // The test words stand in an array of 64, which is doubled only as far as the search gets: test word 0 needs none, the next seven are made at
 // once, and then each weak position doubles them. The search keeps numbers alone (`Outcome`); the codeword is written after it.
-ghost use Rattle.std.specs.Prelude.{◌≡◌, ◌++◌, ◌-◌, ◌^◌, ◌<◌, ◌≤◌, length, take};
+ghost use Rattle.std.specs.Prelude.{◌≡◌, false, ◌++◌, ◌-◌, ◌^◌, ◌<◌, ◌≤◌, length, take};
+ghost use Rattle.bch.specs.Code.{design_distance};
 ghost use Rattle.bch.proofs.logarithms.LogAnswers.{syndromes_of};
 ghost use Rattle.chase.specs.Soft.{hard_bits, soft_stage};
 ghost use Rattle.chase.proofs.ranking.Allowances.{unflipped_sum};
 ghost use Rattle.refusal.specs.Named.{code_of};
 ghost use Rattle.receiver.specs.Located.{flips_of};
-ghost use Rattle.receiver.specs.Tables.{code_in};
-ghost use Rattle.receiver.specs.Search.{judged_by, outcome_of, Sound, Tried, TestWords, IsUnsure};
+ghost use Rattle.receiver.specs.Held.{code_in};
+ghost use Rattle.receiver.specs.Search.{pick_in, is_sure, mark_in, judged_by, outcome_of, IsSound, Tried, TestWords};
 
 use crate::least_keys::Ranked;
 use crate::tables::Tables;
@@ -43,7 +44,7 @@ pub struct Outcome {
 impl Outcome {
     // The best candidate, where there is one.
     pub fn pick(self) -> Option<Pick>
-        ensures { result ≡ pick_in self }
+        ensures { result ≡ pick_in self.best }
     {
         match self.best {
             Best::Nothing => None,
@@ -53,7 +54,7 @@ impl Outcome {
 
     // Its mark.
     pub fn mark(self) -> Mark
-        ensures { result ≡ mark_in self }
+        ensures { result ≡ mark_in self.best }
     {
         match self.best {
             Best::Nothing => Mark::Lost,
@@ -64,7 +65,7 @@ impl Outcome {
 
     // Whether a candidate ended the search.
     fn is_sure(self) -> bool
-        ensures { IsTrue result ↔ IsSure self }
+        ensures { result ≡ is_sure self.best }
     {
         matches!(self.best, Best::Sure(_))
     }
@@ -112,6 +113,7 @@ fn due(b: usize, p: usize) -> bool
 }
 
 // A ranked word with its code's tables.
+#[derive(Clone, Copy)]
 pub struct Search<'a> {
     pub tables: &'a Tables<'a>,
     pub word: &'a Ranked<'a>,
@@ -123,8 +125,8 @@ impl<'a> Search<'a> {
     // The tries of test words that are ready, unless one of them ends the search.
     fn try_on(&self, tests: &[u64], start: Outcome) -> Outcome
         requires tests { TestWords (code_of (code_in self.now.tables.now)) self.now.word.now.p self.now.word.now.symbols.now tests.now }
-        requires tried { Tried (code_of (code_in self.now.tables.now)) self.now.word.now.p self.now.word.now.symbols.now start × IsUnsure start × (start.tries ≤ length tests.now) }
-        ensures { Tried (code_of (code_in self.now.tables.now)) self.now.word.now.p self.now.word.now.symbols.now result × (IsUnsure result → result.tries ≡ length tests.now) }
+        requires tried { Tried (code_of (code_in self.now.tables.now)) self.now.word.now.p self.now.word.now.symbols.now start × (is_sure start.best ≡ false) × (start.tries ≤ length tests.now) }
+        ensures { Tried (code_of (code_in self.now.tables.now)) self.now.word.now.p self.now.word.now.symbols.now result × (is_sure result.best ≡ false → result.tries ≡ length tests.now) }
     {
         let mut o = start;
         while o.tries < tests.len() {
@@ -146,8 +148,8 @@ impl<'a> Search<'a> {
     // The tries after that of test word 0: each weak position doubles the test words, as far as the search gets.
     fn search_on(&self, base: u64, start: Outcome) -> Outcome
         requires base { base ≡ syndromes_of (code_of (code_in self.now.tables.now)) (hard_bits self.now.word.now.symbols.now) }
-        requires tried { Tried (code_of (code_in self.now.tables.now)) self.now.word.now.p self.now.word.now.symbols.now start × IsUnsure start × (start.tries ≡ 1) }
-        ensures { Tried (code_of (code_in self.now.tables.now)) self.now.word.now.p self.now.word.now.symbols.now result × (IsUnsure result → result.tries ≡ 2 ^ self.now.word.now.p) }
+        requires tried { Tried (code_of (code_in self.now.tables.now)) self.now.word.now.p self.now.word.now.symbols.now start × (is_sure start.best ≡ false) × (start.tries ≡ 1) }
+        ensures { Tried (code_of (code_in self.now.tables.now)) self.now.word.now.p self.now.word.now.symbols.now result × (is_sure result.best ≡ false → result.tries ≡ 2 ^ self.now.word.now.p) }
     {
         let p = self.word.p;
         let mut tests = [base; 64];
@@ -168,7 +170,7 @@ impl<'a> Search<'a> {
 
     // All tries, unless one of them ends the search.
     pub fn run(&self) -> Outcome
-        ensures { (outcome_of self.now.word.now.p self.now.word.now.symbols.now result ≡ soft_stage (code_of (code_in self.now.tables.now)) self.now.word.now.p self.now.word.now.symbols.now) × IsSound (code_in self.now.tables.now).n result }
+        ensures { (outcome_of self.now.word.now.p self.now.word.now.symbols.now result ≡ soft_stage (code_of (code_in self.now.tables.now)) self.now.word.now.p self.now.word.now.symbols.now) × IsSound (code_in self.now.tables.now).n result.best }
     {
         let base = u64::from(hard_stage::syndromes(&self.tables.field, self.word.symbols, 4));
         let start = Outcome {

@@ -1,6 +1,6 @@
 // The soft stage of one word: rank, search, and only then write. The codeword is written once, from a position on: whole for a call on one
 // word, and for one of several words only what stands behind the parity, straight into the messages.
-ghost use Rattle.std.specs.Prelude.{◌≡◌, ◌-◌, ◌*◌, ◌+◌, ◌^◌, ◌<◌, ◌≤◌, length, drop};
+ghost use Rattle.std.specs.Prelude.{Ok, ◌≡◌, ◌-◌, ◌*◌, ◌+◌, ◌^◌, ◌<◌, ◌≤◌, length, drop};
 ghost use Rattle.std.proofs.Common.{inr};
 ghost use Rattle.std.proofs.Math.IntN.{sub_ℕ};
 ghost use Rattle.galois.proofs.FieldTables.{Zeros};
@@ -13,8 +13,8 @@ ghost use Rattle.chase.proofs.search.Ready.{places_of};
 ghost use Rattle.refusal.specs.Named.{code_of, Made};
 ghost use Rattle.receiver.specs.Answer.{soft_of};
 ghost use Rattle.receiver.specs.Located.{flips_of};
-ghost use Rattle.receiver.specs.Search.{outcome_of, written_from, IsSound, told};
-ghost use Rattle.receiver.specs.Tables.{code_in};
+ghost use Rattle.receiver.specs.Search.{outcome_of, written_from, IsSound, found_by, told};
+ghost use Rattle.receiver.specs.Held.{code_in};
 
 use crate::least_keys::{self, Ranked};
 use crate::search::{Best, Outcome, Pick, Search};
@@ -68,7 +68,7 @@ fn margin(a: u32, l: u32) -> i32
 // What is found, as the caller's answer has it.
 fn found(pick: &Pick, tries: usize) -> Found
     requires { (pick.now.weight.sum < 65536) × (pick.now.allowed < 65536) }
-    ensures { result ≡ found_by pick.now tries }
+    ensures { result ≡ found_by tries pick.now }
 {
     Found {
         distance: pick.weight.sum as usize,
@@ -81,8 +81,8 @@ fn found(pick: &Pick, tries: usize) -> Found
 
 // The outcome of the search as the caller's answer.
 fn tell(n: usize, o: Outcome) -> Soft
-    requires { IsSound n o }
-    ensures { result ≡ told o }
+    requires { IsSound n o.best }
+    ensures { result ≡ told o.tries o.best }
 {
     match o.best {
         Best::Nothing => Soft::Lost { tries: o.tries },
@@ -94,10 +94,10 @@ fn tell(n: usize, o: Outcome) -> Soft
 // The soft stage with tables that are filled: the outcome is known before the buffer is written, with the codeword from `from` on.
 pub fn decode_word(tables: &Tables, p: usize, s: &[u8], from: usize, out: &mut [u8]) -> Outcome
     requires { (p ≤ 6) × (length s.now ≡ (code_in tables.now).n) × Symbols s.now × (from + length out.old ≡ (code_in tables.now).n) }
-    ensures answer { (outcome_of p s.now result ≡ soft_stage (code_of (code_in tables.now)) p s.now) × IsSound (code_in tables.now).n result }
+    ensures answer { (outcome_of p s.now result ≡ soft_stage (code_of (code_in tables.now)) p s.now) × IsSound (code_in tables.now).n result.best }
     ensures out { out.new ≡ written_from from (soft_stage (code_of (code_in tables.now)) p s.now) out.old }
 {
-    let word = least_keys::ranked(s, tables.field.code.distance(), p);
+    let word = Ranked::new(s, tables.field.code.distance(), p);
     let search = Search {
         tables,
         word: &word,
