@@ -141,7 +141,7 @@ fn over(m: usize, size: usize, polynomial: usize, t: usize, n: usize) -> Result<
     })
 }
 
-// The code that m, t and n name: 1, 2, 3. (m picks the field's polynomial and its size.)
+// The code that m, t and n name: 1, 2, 3. (m picks the field's polynomial and its size. Three numbers, as C hands them over.)
 pub fn settings(m: usize, t: usize, n: usize) -> Result<Code, Refusal>
     ensures { named_of result ≡ answered (first_of (Refusal·settings (code m t n))) (record_of (code m t n)) }
 {
