@@ -46,7 +46,7 @@ pub enum Sample {
 }
 
 // Writes the symbol of each sample, given by its kind (0 blank, 1 heard) and its level. Any kinds, levels and buffer may be
-// handed in: the refusals are 6, 7, 10 and 11. All samples are checked before the first symbol is written.
+// handed in: the refusals are 6, 7, 10 and 11. All samples are checked before the first symbol is written. (Two slices, as C hands them over.)
 pub fn quantise(
     ladder: Ladder,
     kinds: &[u8],

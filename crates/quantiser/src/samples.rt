@@ -43,7 +43,7 @@ fn sample_of(kind: u8, level: f32) -> Sample
     }
 }
 
-// The level without its sign.
+// The level without its sign. (Not by `abs`, which makes 0 of -0: the definition keeps it.)
 fn magnitude(level: f32) -> f32
     ensures { result ≡ Samples·magnitude level }
 {
@@ -88,7 +88,7 @@ fn symbol(edges: &[f32; 15], sample: Sample) -> u8
     heard(sample) * whole
 }
 
-// Writes the symbol of each sample.
+// Writes the symbol of each sample. (By place: the check does not cover a `zip` of the symbols with the samples.)
 pub fn write(edges: &[f32; 15], kinds: &[u8], levels: &[f32], symbols: &mut [u8])
     requires { (length levels.now ≡ length kinds.now) × (length symbols.old ≡ length kinds.now) }
     ensures { symbols.new ≡ quantised edges.now kinds.now levels.now }
