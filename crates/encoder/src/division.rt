@@ -1,6 +1,6 @@
 // Systematic encoding by polynomial division: the register of the generator's division, which the message's bits go through
 // from the last to the first, ends as the parity.
-ghost use Rattle.std.specs.Prelude.{◌+◌, ◌/◌, ◌%◌, ◌<◌, ◌≤◌, ◌^◌, ◌≡◌, ◌++◌, length, take, drop};
+ghost use Rattle.std.specs.Prelude.{◌+◌, ◌/◌, ◌%◌, ◌<◌, ◌≤◌, ◌^◌, ◌≡◌, length};
 ghost use Rattle.bch.specs.Words.{Bits};
 ghost use Rattle.bch.specs.Code.{message_length};
 ghost use Rattle.bch.specs.Encode.{encoded};
@@ -29,21 +29,6 @@ fn generator_of(m: usize, t: usize) -> u32
     GENERATORS[m - 5][t - 1]
 }
 
-// 2^r.
-fn power_of_two(r: usize) -> u32
-    requires { r ≤ 30 }
-    ensures { result ≡ 2 ^ r }
-{
-    1 << r
-}
-
-// A bit as a register.
-fn wide(bit: u8) -> u32
-    ensures { result ≡ bit }
-{
-    bit as u32
-}
-
 // One step of the division. The generator has degree r, so that to add it gives the smaller number exactly where x^r is set. (To take the
 // smaller of two numbers needs no branch.)
 fn step(r: usize, top: u32, g: u32, register: u32, bit: u32) -> u32
@@ -52,7 +37,7 @@ fn step(r: usize, top: u32, g: u32, register: u32, bit: u32) -> u32
 {
     let v = 2 * register ^ bit * top;
     let w = v ^ g;
-    if w < v { w } else { v }
+    v.min(w)
 }
 
 // The remainder of the message's division.
@@ -60,46 +45,22 @@ fn parity(r: usize, g: u32, message: &[u8]) -> u32
     requires { (r ≤ 30) × (g / 2 ^ r ≡ 1) × Bits message.now }
     ensures { result ≡ remainder r g message.now }
 {
-    let top = power_of_two(r);
+    let top = 1 << r;
     let mut register: u32 = 0;
-    let mut j = message.len();
-    while 0 < j {
-        j -= 1;
-        register = step(r, top, g, register, wide(message[j]));
+    for &bit in message.iter().rev() {
+        register = step(r, top, g, register, u32::from(bit));
     }
     register
 }
 
-// The lowest bit of a register.
-fn lowest(register: u32) -> u8
-    ensures { result ≡ register % 2 }
-{
-    (register % 2) as u8
-}
-
-// Writes the register's r bits, bit i at position i.
-fn write_parity(r: usize, register: u32, codeword: &mut [u8])
-    requires { r ≤ length codeword.old }
-    ensures { codeword.new ≡ word r register ++ drop r codeword.old }
+// Writes the register's lowest bits, bit i at position i.
+fn write_parity(register: u32, parity: &mut [u8])
+    ensures { parity.new ≡ word (length parity.old) register }
 {
     let mut left = register;
-    let mut i = 0;
-    while i < r {
-        codeword[i] = lowest(left);
-        left = left / 2;
-        i += 1;
-    }
-}
-
-// Writes the message behind the first r positions.
-fn write_message(r: usize, message: &[u8], codeword: &mut [u8])
-    requires { length codeword.old ≡ r + length message.now }
-    ensures { codeword.new ≡ take r codeword.old ++ message.now }
-{
-    let mut i = 0;
-    while i < message.len() {
-        codeword[r + i] = message[i];
-        i += 1;
+    for bit in parity {
+        *bit = (left % 2) as u8;
+        left /= 2;
     }
 }
 
@@ -110,6 +71,7 @@ pub fn write(c: Code, message: &[u8], codeword: &mut [u8])
 {
     let r = c.m * c.t;
     let register = parity(r, generator_of(c.m, c.t), message);
-    write_parity(r, register, codeword);
-    write_message(r, message, codeword);
+    let (low, high) = codeword.split_at_mut(r);
+    write_parity(register, low);
+    high.copy_from_slice(message);
 }

@@ -1,3 +1,3 @@
 mod Bad
+mod Counting
 mod Symbols
-pub mod Answers

@@ -1,7 +1,7 @@
 // The samples: their check, in a pass of its own, and then their symbols.
 //
 // No branch depends on whether a sample is blank: it would be guessed wrong half of the time where half are. The check asks one question of
-// kind and level, and a blank's symbol is made too, of the level 0, and taken 0 times. A level that is not a number differs from itself.
+// kind and level, and a blank's symbol is made too, of the level 0, and taken 0 times.
 ghost use Rattle.std.specs.Prelude.{◌≤◌, ◌≡◌, cond, length};
 ghost use Rattle.std.specs.Float.Ieee.{lt};
 ghost use Rattle.take_format.specs.Samples.{zero_level, sample_of, quantised, samples_check};
@@ -10,33 +10,26 @@ ghost use Rattle.refusal.specs.Checked.{checked};
 ghost use Rattle.quantiser.specs.Told.{sample_told, heard_of, level_of, is_bad};
 
 use crate::{Sample, edges};
-use refusal::Check;
+use refusal::{Cause, Refusal};
 
 // Whether a sample is refused.
 fn bad(kind: u8, level: f32) -> bool
     ensures { result ≡ is_bad kind level }
 {
-    (kind > 1) | ((kind == 1) & (level != level))
+    (kind > 1) | ((kind == 1) & level.is_nan())
 }
 
 // The samples one after the other: 10, 11.
-pub fn check(kinds: &[u8], levels: &[f32]) -> Check
-    requires { length levels.now ≡ length kinds.now }
+pub fn check(kinds: &[u8], levels: &[f32]) -> Result<(), Refusal>
     ensures { checked result ≡ samples_check 0 kinds.now levels.now }
 {
-    let mut i = 0;
-    while i < kinds.len() {
-        let kind = kinds[i];
-        let level = levels[i];
+    for (place, (&kind, &level)) in kinds.iter().zip(levels).enumerate() {
         if bad(kind, level) {
-            if 1 < kind {
-                return refusal::refuse(refusal::REFUSED_KIND, i);
-            }
-            return refusal::refuse(refusal::REFUSED_LEVEL, i);
+            let cause = if 1 < kind { Cause::Kind } else { Cause::Level };
+            return Err(Refusal { cause, place });
         }
-        i += 1;
     }
-    Check::Passed
+    Ok(())
 }
 
 // The sample of a kind and a level.
@@ -50,7 +43,7 @@ fn sample_of(kind: u8, level: f32) -> Sample
     }
 }
 
-// The level without its sign.
+// The level without its sign. (Not by `abs`, which makes 0 of -0: the definition keeps it.)
 fn magnitude(level: f32) -> f32
     ensures { result ≡ Samples·magnitude level }
 {
@@ -87,8 +80,7 @@ fn level_of(sample: Sample) -> f32
 }
 
 // The symbol of a sample.
-fn symbol(edges: &[f32], sample: Sample) -> u8
-    requires { length edges.now ≤ 15 }
+fn symbol(edges: &[f32; 15], sample: Sample) -> u8
     ensures { result ≡ Samples·symbol edges.now (sample_told sample) }
 {
     let level = level_of(sample);
@@ -96,14 +88,12 @@ fn symbol(edges: &[f32], sample: Sample) -> u8
     heard(sample) * whole
 }
 
-// Writes the symbol of each sample.
-pub fn write(edges: &[f32], kinds: &[u8], levels: &[f32], symbols: &mut [u8])
-    requires { (length edges.now ≤ 15) × (length levels.now ≡ length kinds.now) × (length symbols.old ≡ length kinds.now) }
+// Writes the symbol of each sample. (By place: the check does not cover a `zip` of the symbols with the samples.)
+pub fn write(edges: &[f32; 15], kinds: &[u8], levels: &[f32], symbols: &mut [u8])
+    requires { (length levels.now ≡ length kinds.now) × (length symbols.old ≡ length kinds.now) }
     ensures { symbols.new ≡ quantised edges.now kinds.now levels.now }
 {
-    let mut i = 0;
-    while i < kinds.len() {
-        symbols[i] = symbol(edges, sample_of(kinds[i], levels[i]));
-        i += 1;
+    for (i, place) in symbols.iter_mut().enumerate() {
+        *place = symbol(edges, sample_of(kinds[i], levels[i]));
     }
 }

@@ -7,7 +7,7 @@
 // `requires`.
 #![tactic(auto)]
 
-ghost use Rattle.std.specs.Prelude.{◌≡◌, ◌*◌, ◌≤◌, ◌^◌, All, drop, position, nat_lt, Some};
+ghost use Rattle.std.specs.Prelude.{◌≡◌, ◌*◌, ◌≤◌, ◌^◌, max, fold, drop, position, nat_lt, Some};
 ghost use Rattle.galois.specs.Field.{poly};
 ghost use Rattle.bch.specs.Code.{code, word_length, message_length};
 ghost use Rattle.take_format.specs.Refusal.{first_of, unless_at_most, bits_check, symbols_check, words_check};
@@ -141,7 +141,7 @@ fn over(m: usize, size: usize, polynomial: usize, t: usize, n: usize) -> Result<
     })
 }
 
-// The code that m, t and n name: 1, 2, 3. (m picks the field's polynomial and its size.)
+// The code that m, t and n name: 1, 2, 3. (m picks the field's polynomial and its size. Three numbers, as C hands them over.)
 pub fn settings(m: usize, t: usize, n: usize) -> Result<Code, Refusal>
     ensures { named_of result ≡ answered (first_of (Refusal·settings (code m t n))) (record_of (code m t n)) }
 {
@@ -154,11 +154,11 @@ pub fn settings(m: usize, t: usize, n: usize) -> Result<Code, Refusal>
     }
 }
 
-// A number that no byte is above: one pass without branches, so that bytes that are all in order cost little.
+// The highest byte, or 0 where there is none: one pass without branches, so that bytes that are all in order cost little.
 fn highest(bytes: &[u8]) -> u8
-    ensures { All (λ b. b ≤ result) bytes.now }
+    ensures { result ≡ fold (λ a b. max a b) 0 bytes.now }
 {
-    bytes.iter().copied().max().unwrap_or(0)
+    bytes.iter().copied().fold(0, u8::max)
 }
 
 // The place of the first byte above `most`.

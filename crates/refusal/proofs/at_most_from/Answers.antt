@@ -15,7 +15,7 @@ use Rattle.std.proofs.lemmas.List.Quantifiers.{position-Some}
 use Rattle.take_format.specs.Refusal.{unless_at_most, refused}
 use Rattle.take_format.proofs.checks.RefusalLaws.{all_most, above_none}
 use Rattle.refusal.specs.Checked.{checked, number_of}
-use Rattle.refusal.proofs.Laws.{first_at}
+use Rattle.refusal.proofs.Laws.{fold_most, first_at}
 use Rattle.refusal.proofs.at_most_from.Goals as goal
 
 -- the bytes from `start` on
@@ -41,7 +41,7 @@ returns-then-highest-most c = let a = c.args in
     let xs = c.in-Some.rest.now in
     let is = rest a.bytes.now a.start xs c.in-Some.ensures.lookup.0.2 in
     subst (λ (ys : List ℕ). none ≡ unless_at_most (number_of a.cause) a.most a.start ys) is
-    (all_most (number_of a.cause) a.most a.start xs (λ i l. omega (arith, c.highest.ensures i 0 l)))
+    (all_most (number_of a.cause) a.most a.start xs (λ i l. omega (arith, c.highest.ensures, fold_most 0 xs i l)))
 
 pub returns-in-Some-first_above : goal.returns-in-Some-first_above
 unfolding checked

@@ -1,30 +1,23 @@
 -- The smaller of the two numbers is the step's. Assumes nothing.
-use Prim.Native.Nat.{◌^◌, ◌≤◌}
-use native.Mathlib.Nat.{mul-le-mul}
+use Prim.Native.Nat.{◌*◌, ◌<◌, ◌≤◌}
 use native.Mathlib.Omega.{arith}
-use lib.Pow.{pow_mono}
+use mathlib.Core.Path.{◌≡◌, ◌∙◌}
+use mathlib.Core.Logic.{⊎_elim}
+use lib.Bits.{bit_xor}
+use Rattle.galois.proofs.Tests.{lt_or_le}
 use Rattle.bch.proofs.encoding.Division.{shifted, step_added, step_kept}
 use Rattle.encoder.proofs.division.step.Goals as goal
 
-pub overflow_mul-v : goal.overflow_mul-v
-overflow_mul-v c = omega (arith, pow_mono c.requires.0)
-
-pub overflow_mul-v-2 : goal.overflow_mul-v-2
-overflow_mul-v-2 c =
-    let bit : c.args.bit ≤ 1 = omega arith in
-    let top : c.args.top ≤ 2 ^ 30 = omega (arith, pow_mono c.requires.0) in
-    omega (arith, mul-le-mul bit top)
-
-pub returns-then-w-v : goal.returns-then-w-v
+pub returns : goal.returns
 unfolding shifted
-returns-then-w-v c =
+returns c =
     let a = c.args in
     let p = c.requires in
-    rw p.1 (step_added a.r a.g p.2 a.register a.bit (rw p.1 at c.if-w-v.true))
-
-pub returns-else-w-v : goal.returns-else-w-v
-unfolding shifted
-returns-else-w-v c =
-    let a = c.args in
-    let p = c.requires in
-    rw p.1 (step_kept a.r a.g p.2 a.register a.bit p.3 p.4 (rw p.1 at c.if-w-v.false))
+    let v = bit_xor (2 * a.register) (a.bit * a.top) in
+    let w = bit_xor v a.g in
+    ⊎_elim
+    (λ (less : w < v). let e : c.min.result ≡ w = omega (arith, c.min.ensures) in
+    e ∙ rw p.1 (step_added a.r a.g p.2 a.register a.bit (rw p.1 at less)))
+    (λ (least : v ≤ w). let e : c.min.result ≡ v = omega (arith, c.min.ensures) in
+    e ∙ rw p.1 (step_kept a.r a.g p.2 a.register a.bit p.3 p.4 (rw p.1 at least)))
+    (lt_or_le w v)

@@ -2,12 +2,13 @@
 use Prim.Native.Nat.{ℕ, ◌*◌}
 use native.Mathlib.Nat.{mul-le-mul}
 use native.Mathlib.Omega.{arith}
-use mathlib.Core.Path.{ap, ◌∙◌}
-use mathlib.Core.List.{List, ◌++◌}
-use lib.ListN.{take, drop}
+use mathlib.Core.Path.{ap, ap₂, sym, ◌∙◌}
+use mathlib.Core.List.{List, [], ◌++◌}
+use Rattle.std.proofs.lemmas.List.{take_at}
 use Rattle.bch.proofs.codes.Settings.{lawful}
 use Rattle.bch.proofs.encoding.GeneratorLaws.{suits_all}
 use Rattle.bch.proofs.encoding.EncodeLaws.{encoded_written}
+use Rattle.bch.proofs.encoding.Numbers.{word, length_word}
 use Rattle.refusal.specs.Named.{code_of}
 use Rattle.encoder.proofs.division.write.Goals as goal
 
@@ -23,12 +24,11 @@ parity-register-requires c =
 pub returns : goal.returns
 returns c =
     let a = c.args in
-    let m = a.c.m in
-    let t = a.c.t in
-    let ok = c.requires.is_code in
-    let rest = drop (m * t) a.codeword.now in
-    c.write_message.ensures
-    ∙ ap (λ (xs : List ℕ). take (m * t) xs ++ a.message.now) c.write_parity.ensures
-    ∙ encoded_written (code_of a.c) (lawful _ ok) (omega arith) a.message.now rest _ _ c.requires.are_bits c.requires.long
+    let r = a.c.m * a.c.t in
+    let register = c.parity-register.result in
+    let parity = c.write_parity.ensures ∙ ap (λ (k : ℕ). word k register) c.split_at_mut-low.ensures.front_len in
+    ap₂ (λ (xs ys : List ℕ). xs ++ ys) parity c.copy_from_slice.ensures.after
+    ∙ ap (λ (xs : List ℕ). xs ++ a.message.now) (sym (take_at (word r register) [] r (length_word r register)))
+    ∙ encoded_written (code_of a.c) (lawful _ c.requires.is_code) (omega arith) a.message.now [] _ _ c.requires.are_bits c.requires.long
     c.generator_of.ensures
     c.parity-register.ensures

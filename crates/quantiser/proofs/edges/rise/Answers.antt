@@ -5,24 +5,21 @@ use lib.Ieee.{of_bits}
 use Rattle.take_format.proofs.quantisation.SampleSteps.{rising_more, rising_not, rising_end}
 use Rattle.quantiser.proofs.edges.rise.Goals as goal
 
-pub loop-i-init : goal.loop-i-init
+pub loop-edge-init : goal.loop-edge-init
 unfolding of_bits
-loop-i-init c = (omega arith, refl)
+loop-edge-init c = refl
 
-pub returns-else-below-edges : goal.returns-else-below-edges
-returns-else-below-edges c =
-    let a = c.args in
-    let l = c.loop-i in
-    sym (rising_not a.edges.now l.i l.below (omega arith) c.if-below-edges.false) ∙ l.invariant.1
+pub returns-else-below-edge : goal.returns-else-below-edge
+returns-else-below-edge c =
+    let l = c.loop-edge in
+    sym (rising_not c.args.edges.now l.edge-index l.below (omega arith) c.if-below-edge.false) ∙ l.invariant
 
-pub loop-i-preserved : goal.loop-i-preserved
-loop-i-preserved c =
-    let a = c.args in
-    let l = c.loop-i in
-    (omega arith, sym (rising_more a.edges.now l.i l.below (omega arith) c.if-below-edges.true) ∙ l.invariant.1)
+pub loop-edge-preserved : goal.loop-edge-preserved
+loop-edge-preserved c =
+    let l = c.loop-edge in
+    sym (rising_more c.args.edges.now l.edge-index l.below (omega arith) c.if-below-edge.true) ∙ l.invariant
 
 pub returns : goal.returns
 returns c =
-    let a = c.args in
-    let l = c.loop-i in
-    sym (rising_end a.edges.now l.i l.below (omega arith)) ∙ l.invariant.1
+    let l = c.loop-edge in
+    sym (rising_end c.args.edges.now l.edge-index l.below (omega arith)) ∙ l.invariant

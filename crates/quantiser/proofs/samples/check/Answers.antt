@@ -1,49 +1,44 @@
 -- What is left to check is refused as all is. Assumes nothing.
-use Prim.Native.Nat.{◌+◌}
-use mathlib.Core.Path.{◌≡◌, refl, sym, ◌∙◌}
-use native.Mathlib.Omega.{arith}
-use mathlib.Core.Logic.{⊎_elim}
-use lib.ListN.{drop}
+use Prim.Native.Nat.{ℕ}
+use mathlib.Core.Path.{ap, ap₂, sym, ◌∙◌}
+use mathlib.Core.Logic.{⊎_elim, inl, inr}
+use Rattle.take_format.specs.Refusal.{refused}
 use Rattle.take_format.specs.Samples.{samples_check}
-use Rattle.take_format.proofs.quantisation.SampleSteps.{check_kind, check_nan, check_blank, check_heard, check_end}
 use Rattle.refusal.specs.Checked.{checked}
-use Rattle.quantiser.proofs.Bad.{bad_nan, not_bad}
+use Rattle.quantiser.proofs.Bad.{kind_refused, level_refused, passed, none_left}
 use Rattle.quantiser.proofs.samples.check.Goals as goal
 
-pub loop-i-init : goal.loop-i-init
-loop-i-init c = (omega arith, refl)
+pub loop-place-init : goal.loop-place-init
+loop-place-init c = cc
 
 pub returns-then-kind-gt1 : goal.returns-then-kind-gt1
+unfolding checked
 returns-then-kind-gt1 c =
-    let l = c.loop-i in
-    let ks = c.args.kinds.now in
-    let xs = c.args.levels.now in
-    c.refuse.ensures ∙ check_kind ks xs l.i c.requires (omega arith) (omega (arith, c.if-kind-gt1.true)) ∙ l.invariant.1
+    let l = c.loop-place in
+    let at = l.place-iterator.count in
+    let s = c.in-Some.ensures.steps in
+    ap (refused 10) s.1 ∙ kind_refused at _ _ _ _ c.if-kind-gt1.true ∙ sym (ap₂ (samples_check at) s.0.0 s.0.1) ∙ l.invariant
 
-pub returns-then-bad : goal.returns-then-bad
-returns-then-bad c =
-    let l = c.loop-i in
-    let ks = c.args.kinds.now in
-    let xs = c.args.levels.now in
-    let n = bad_nan _ _ (sym c.if-bad.true ∙ c.bad.ensures) (omega (arith, c.if-kind-gt1.false)) in
-    c.refuse-then-bad.ensures ∙ check_nan ks xs l.i c.requires (omega arith) n.0 n.1 ∙ l.invariant.1
+pub returns-else-kind-gt1 : goal.returns-else-kind-gt1
+unfolding checked
+returns-else-kind-gt1 c =
+    let l = c.loop-place in
+    let at = l.place-iterator.count in
+    let s = c.in-Some.ensures.steps in
+    ap (refused 11) s.1 ∙ level_refused at _ _ _ _ c.if-bad.ensures c.if-kind-gt1.false ∙ sym (ap₂ (samples_check at) s.0.0 s.0.1) ∙ l.invariant
 
-pub loop-i-preserved : goal.loop-i-preserved
-loop-i-preserved c =
-    let l = c.loop-i in
-    let ks = c.args.kinds.now in
-    let xs = c.args.levels.now in
-    let step : samples_check (l.i + 1) (drop (l.i + 1) ks) (drop (l.i + 1) xs) ≡ samples_check l.i (drop l.i ks) (drop l.i xs) =
-    ⊎_elim
-    (λ w. sym (check_blank ks xs l.i c.requires (omega arith) w))
-    (λ w. sym (check_heard ks xs l.i c.requires (omega arith) w.0 w.1))
-    (not_bad _ _ (sym c.if-bad.false ∙ c.bad.ensures)) in
-    (omega arith, step ∙ l.invariant.1)
+pub loop-place-preserved : goal.loop-place-preserved
+loop-place-preserved c =
+    let l = c.loop-place in
+    let at = l.place-iterator.count in
+    let s = c.in-Some.ensures.steps in
+    ap (λ (n : ℕ). samples_check n c.next.new.self.iter.a.rest.now c.next.new.self.iter.b.rest.now) s.2
+    ∙ sym (passed at _ _ _ _ c.if-bad.ensures)
+    ∙ sym (ap₂ (samples_check at) s.0.0 s.0.1)
+    ∙ l.invariant
 
 pub returns : goal.returns
 unfolding checked
 returns c =
-    let l = c.loop-i in
-    let ks = c.args.kinds.now in
-    let xs = c.args.levels.now in
-    check_end ks xs l.i c.requires (omega arith) ∙ l.invariant.1
+    let l = c.loop-place in
+    none_left l.place-iterator.count _ _ (⊎_elim (λ e. inl e.1.0) (λ e. inr e.1.0) c.in-None.ensures.steps.0) ∙ l.invariant

@@ -1,7 +1,6 @@
 -- The symbols are written one after the other. Assumes nothing.
 use mathlib.Core.Path.{refl, ap, sym, ◌∙◌}
 use native.Mathlib.Omega.{arith}
-use lib.ListN.{length-set}
 use Rattle.bch.proofs.codes.Copies.{copied_more, copied_end}
 use Rattle.take_format.specs.Samples.{quantised, symbol as Samples·symbol}
 use Rattle.take_format.proofs.quantisation.SampleLaws.{length_quantised}
@@ -9,7 +8,7 @@ use Rattle.take_format.proofs.quantisation.SampleSteps.{quantised_at}
 use Rattle.quantiser.proofs.samples.write.Goals as goal
 
 pub loop-i-init : goal.loop-i-init
-loop-i-init c = (omega arith, refl, refl)
+loop-i-init c = refl
 
 pub loop-i-preserved : goal.loop-i-preserved
 loop-i-preserved c =
@@ -19,12 +18,9 @@ loop-i-preserved c =
     let ks = a.kinds.now in
     let xs = a.levels.now in
     let es = a.edges.now in
-    let told = c.symbol.ensures ∙ ap (Samples·symbol es) c.sample_of.ensures ∙ sym (quantised_at es ks xs l.i p.1 (omega arith)) in (
-      omega arith,
-      simp length-set l.invariant.1,
-      copied_more a.symbols.now 0 (quantised es ks xs) l.i l.i (omega arith) l.symbols l.invariant.2 _ (omega arith)
-          (omega (arith, length_quantised es ks xs p.1)) told,
-    )
+    let told = c.symbol.ensures ∙ ap (Samples·symbol es) c.sample_of.ensures ∙ sym (quantised_at es ks xs l.i p.0 (omega arith)) in
+    copied_more a.symbols.now 0 (quantised es ks xs) l.i l.i (omega arith) l.symbols l.invariant _ (omega arith)
+    (omega (arith, length_quantised es ks xs p.0)) told
 
 pub returns : goal.returns
 returns c =
@@ -34,5 +30,5 @@ returns c =
     let ks = a.kinds.now in
     let xs = a.levels.now in
     let es = a.edges.now in
-    copied_end a.symbols.now 0 (quantised es ks xs) l.i l.i (omega arith) l.symbols l.invariant.2 (omega (arith, length_quantised es ks xs p.1))
+    copied_end a.symbols.now 0 (quantised es ks xs) l.i l.i (omega arith) l.symbols l.invariant (omega (arith, length_quantised es ks xs p.0))
     (omega arith)
