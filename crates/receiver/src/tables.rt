@@ -132,7 +132,8 @@ fn fill_quadratics(c: Code, numbers: &mut [u32])
     if c.t != 2 {
         return;
     }
-    for w in (2..c.period).step_by(2) {
+    for h in 1..c.powers / 2 {
+        let w = 2 * h;
         let a = numbers[w];
         let b = numbers[w + 1];
         let e = reduced(c.period, (a + b) as usize);
