@@ -114,7 +114,7 @@ fn add_powers(c: Code, t: usize, d: usize, scale: u32, numbers: &mut [u32])
     }
     let mut e = 0;
     let mut i = 0;
-    while i < c.period {
+    for _ in 0..d {
         while e < c.period {
             numbers[c.powers + i] += scale * (numbers[c.powers + e] % 1024);
             e += d;

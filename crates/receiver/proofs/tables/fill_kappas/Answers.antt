@@ -29,7 +29,7 @@ bounds-numbers-x c =
     let k = c.requires.0 in
     let l = c.loop-e in
     let i = l.invariant in
-    let h = turning c.args.c k 3 l.l l.e (record { turns = c.loop.counter; few = c.loop-test.true; sum = i.1 }) c.loop-e-test.true in
+    let h = turning c.args.c k 3 l.l l.e c.loop.counter c.loop-test.true i.1 c.loop-e-test.true in
     omega (arith, next_lt c.args.c k l.numbers i.3 l.l i.0 h.1, i.3.long)
 
 pub behind-requires : goal.behind-requires
@@ -37,7 +37,7 @@ behind-requires c =
     let k = c.requires.0 in
     let l = c.loop-e in
     let i = l.invariant in
-    let h = turning c.args.c k 3 l.l l.e (record { turns = c.loop.counter; few = c.loop-test.true; sum = i.1 }) c.loop-e-test.true in
+    let h = turning c.args.c k 3 l.l l.e c.loop.counter c.loop-test.true i.1 c.loop-e-test.true in
     let q = next_lt c.args.c k l.numbers i.3 l.l i.0 h.1 in
     (c.loop-e-test.true, omega (arith, q.1, k.is_period), omega (arith, k.is_period, k.size_most))
 
@@ -48,7 +48,7 @@ loop-e-preserved c =
     let m = c.args.c.m in
     let l = c.loop-e in
     let i = l.invariant in
-    let h = turning c.args.c k 3 l.l l.e (record { turns = c.loop.counter; few = c.loop-test.true; sum = i.1 }) c.loop-e-test.true in
+    let h = turning c.args.c k 3 l.l l.e c.loop.counter c.loop-test.true i.1 c.loop-e-test.true in
     let x = bit_xor (get_or l.numbers (c.args.c.powers + l.l) 0 % 1024) 1 in
     let b = c.behind.result in
     let is_b : b ≡ behind (2 ^ m - 1) l.e (get_or l.numbers x 0) =
