@@ -1,3 +1,4 @@
 pub mod HighBits
 pub mod Margins
 pub mod Places
+pub mod Powers
