@@ -4,17 +4,16 @@ use mathlib.Core.Path.{refl, ap}
 use native.Mathlib.Omega.{arith}
 use Rattle.bch.proofs.logarithms.LogSteps.{cubes_lost, cubes_odd, cubes_found}
 use Rattle.bch.proofs.tables.Placing.{positions}
-use Rattle.receiver.specs.Located.{is_found, count_of, places_in}
 use Rattle.receiver.proofs.Powers.{low_lt}
 use Rattle.receiver.proofs.locate.by_cubes.Goals as goal
 
 pub returns-then-period-ne0 : goal.returns-then-period-ne0
-unfolding positions is_found count_of places_in
+unfolding positions
 returns-then-period-ne0 c =
     cubes_lost _ _ _ c.args.s1 c.args.d2 _ c.args.field.now.fielded.made.is_period c.if-period-ne0.true refl
 
 pub returns-then-l-ne0 : goal.returns-then-l-ne0
-unfolding positions is_found count_of places_in
+unfolding positions
 returns-then-l-ne0 c =
     cubes_odd _ _ _ c.args.s1 _ _ c.args.field.now.fielded.made.is_period _ c.log_of-l.ensures.0
     c.if-period-ne0.false c.if-l-ne0.true refl

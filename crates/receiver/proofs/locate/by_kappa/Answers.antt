@@ -5,12 +5,11 @@ use native.Mathlib.Omega.{arith}
 use Rattle.bch.proofs.logarithms.LogSteps.{kappa_lost, kappa_found}
 use Rattle.bch.proofs.logarithms.LogBounds.{roots_lt}
 use Rattle.bch.proofs.tables.Placing.{positions}
-use Rattle.receiver.specs.Located.{is_found, count_of, places_in}
 use Rattle.receiver.proofs.Powers.{low_lt}
 use Rattle.receiver.proofs.locate.by_kappa.Goals as goal
 
 pub returns-then-r-lt1024 : goal.returns-then-r-lt1024
-unfolding positions is_found count_of places_in
+unfolding positions
 returns-then-r-lt1024 c =
     kappa_lost _ _ _ c.args.s1 _ _ _ _ _ _ _ c.args.tables.now.filled.fielded.made.is_period
     c.log_of-ld.ensures.0 c.log_of-le.ensures.0 c.fold.ensures.0 c.roots_of-r.ensures c.if-r-lt1024.true refl

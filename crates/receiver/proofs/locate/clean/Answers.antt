@@ -4,7 +4,6 @@ use native.Mathlib.Omega.{arith}
 use Rattle.bch.specs.Hard.{three_places}
 use Rattle.bch.proofs.decoding.Sorting.{sorted}
 use Rattle.bch.proofs.tables.Placing.{positions}
-use Rattle.receiver.specs.Located.{is_found, count_of, places_in}
 use Rattle.receiver.proofs.locate.clean.Goals as goal
 
 pub invariant_of-result : goal.invariant_of-result
@@ -12,5 +11,5 @@ unfolding three_places
 invariant_of-result c = record { few = omega arith; zeros = refl }
 
 pub returns : goal.returns
-unfolding positions sorted is_found count_of places_in
+unfolding positions sorted
 returns c = refl

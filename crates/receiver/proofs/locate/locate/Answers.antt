@@ -11,7 +11,6 @@ use Rattle.bch.proofs.logarithms.LogSteps.{locate_flat, locate_cubes, locate_kap
 use Rattle.bch.proofs.logarithms.LogBounds.{Syndromes, rest_lt, rest_two}
 use Rattle.refusal.specs.declared.Code as struct
 use Rattle.receiver.specs.Tables.{Filled}
-use Rattle.receiver.specs.Located.{is_found, count_of, places_in}
 use Rattle.receiver.proofs.locate.locate.Goals as goal
 
 -- what is left of the syndromes s, without the powers p of S1's logarithm l, has elements as its parts
@@ -28,13 +27,13 @@ returns-then-rest-eq0 c =
     locate_one _ _ _ _ _ c.if-s-eq0.false _ _ _ refl c.log_of-l1.ensures.0 left c.if-rest-eq0.true c.one.ensures
 
 pub returns-then-t-eq1 : goal.returns-then-t-eq1
-unfolding positions is_found count_of places_in
+unfolding positions
 returns-then-t-eq1 c =
     let left = ap (bit_xor c.args.s) c.powers_of.ensures in
     locate_single _ _ _ _ _ c.if-s-eq0.false _ _ _ refl c.log_of-l1.ensures.0 left c.if-rest-eq0.false c.if-t-eq1.true refl
 
 pub returns-then-s1-eq0 : goal.returns-then-s1-eq0
-unfolding positions is_found count_of places_in
+unfolding positions
 returns-then-s1-eq0 c =
     let left = ap (bit_xor c.args.s) c.powers_of.ensures in
     locate_two_zero _ _ _ _ _ c.if-s-eq0.false _ _ _ refl c.log_of-l1.ensures.0 left c.if-rest-eq0.false _ refl c.if-t-eq2.true
@@ -55,7 +54,7 @@ returns-then-t-eq2 c =
     c.if-s1-eq0.false c.pair.ensures
 
 pub returns-then-d2-eq0 : goal.returns-then-d2-eq0
-unfolding positions is_found count_of places_in
+unfolding positions
 returns-then-d2-eq0 c =
     let k = c.args.tables.now.filled.fielded.made.lawful in
     let left = ap (bit_xor c.args.s) c.powers_of.ensures in

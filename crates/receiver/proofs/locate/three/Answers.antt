@@ -4,11 +4,10 @@ use native.Mathlib.Omega.{arith}
 use Rattle.bch.specs.Hard.{three_places}
 use Rattle.bch.proofs.tables.Placing.{positions}
 use Rattle.bch.proofs.logarithms.LogSteps.{three_lost, three_found}
-use Rattle.receiver.specs.Located.{is_found, count_of, places_in}
 use Rattle.receiver.proofs.locate.three.Goals as goal
 
 pub returns-then-n-highest : goal.returns-then-n-highest
-unfolding positions is_found count_of places_in
+unfolding positions
 returns-then-n-highest c =
     let a = c.args in
     three_lost a.n a.x a.y a.z _ _ _ c.min-a.ensures c.max-b.ensures c.max-rest.ensures _ c.max-highest.ensures
@@ -19,7 +18,7 @@ unfolding three_places
 invariant_of-result c = record { few = omega arith; zeros = refl }
 
 pub returns : goal.returns
-unfolding positions is_found count_of places_in
+unfolding positions
 returns c =
     let a = c.args in
     three_found a.n a.x a.y a.z _ _ _ c.min-a.ensures c.max-b.ensures c.max-rest.ensures _ c.max-highest.ensures
