@@ -1,14 +1,14 @@
 -- The positions that are located. Cited by the contracts of private functions alone. Assumes nothing.
-use Rattle.std.specs.Prelude.{ℕ, ◌/◌, ◌%◌, ◌^◌, ◌≤◌, ◌<◌, ◌≡◌, true, List, [], map, length, get_or, take, is_some, Option as Rust·Option, Some, None}
+use Rattle.std.specs.Prelude.{ℕ, ◌/◌, ◌%◌, ◌^◌, ◌≤◌, ◌<◌, ◌≡◌, List, [], map, length, get_or, take, is_some, IfSome, Option as Rust·Option, Some, None}
 use Rattle.std.proofs.Math.Option.{Option, some, none}
-use Rattle.bch.specs.Words.{Bits}
+use Rattle.bch.specs.Words.{Bits, Below}
 use Rattle.bch.proofs.logarithms.LogSteps.{Ordered}
 use Rattle.bch.proofs.logarithms.LogAnswers.{syndromes_of}
 use Rattle.bch.proofs.logarithms.LogBounds.{Syndromes}
 use Rattle.bch.proofs.logarithms.LogLocator.{rising_in}
 use Rattle.bch.proofs.logarithms.Repairs.{Repairs}
 use Rattle.bch.proofs.logarithms.Seeking.{Next}
-use Rattle.bch.proofs.tables.Placing.{Placed, positions}
+use Rattle.bch.proofs.tables.Placing.{positions}
 use Rattle.refusal.specs.Named.{code_of}
 use Rattle.refusal.specs.declared.Code as refusal
 use Rattle.receiver.specs.declared.flips.Flips.{Flips}
@@ -50,10 +50,9 @@ located_at c tables tests j = rising_in c.m c.t c.n tables (sums_at tests j)
 abbrev pub Sought : refusal.Code → List ℕ → List ℕ → ℕ → ℕ → Rust·Option Flips → Type 0
 Sought c tables tests made tries f = Next (located_at c tables tests) made (length tests) tries (is_some f) (count_of f) (places_in f)
 
--- they are where the hard stage flips a word, and places in it
+-- they are where the hard stage flips a word, and positions of it
 abbrev pub Repaired : refusal.Code → List ℕ → Rust·Option Flips → Type 0
-Repaired c xs f =
-    Repairs (code_of c) xs (is_some f) (count_of f) (places_in f) × (is_some f ≡ true → Placed c.n (count_of f) (places_in f))
+Repaired c xs f = Repairs (code_of c) xs (is_some f) (count_of f) (places_in f) × IfSome f (λ k. Below c.n (flips_of k))
 
 -- they are so for every word of these syndromes
 abbrev pub Repairing : refusal.Code → ℕ → Rust·Option Flips → Type 0
