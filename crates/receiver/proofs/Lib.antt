@@ -1,3 +1,5 @@
 pub mod HighBits
 pub mod Margins
+pub mod Placed
 pub mod Places
+pub mod Powers
