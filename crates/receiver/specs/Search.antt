@@ -4,9 +4,8 @@ use Rattle.std.specs.Prelude.{ℕ, ◌-◌, ◌^◌, ◌≤◌, ◌<◌, ◌≡�
 use Rattle.std.proofs.Math.Bool.{cond}
 use Rattle.std.proofs.Math.Option.{Option, none, some}
 use Rattle.std.proofs.Math.IntN.{sub_ℕ}
-use Rattle.bch.specs.Words.{flipped_at}
+use Rattle.bch.specs.Words.{Below, flipped_at}
 use Rattle.bch.specs.Code.{Code}
-use Rattle.bch.proofs.tables.Placing.{Placed}
 use Rattle.chase.specs.Soft.{Answer, Candidate, answer, lost_answer, lost, fair, sure, search_from, soft_stage}
 use Rattle.chase.specs.Word.{test}
 use Rattle.chase.proofs.test_words.Doublings.{Holds}
@@ -26,19 +25,19 @@ use Rattle.receiver.specs.declared.Soft.TheVariants as Soft
 use Rattle.receiver.specs.Located.{flips_of}
 
 -- the best candidate, where there is one
-unfoldable pub pick_in : Best → Rust·Option Pick
+abbrev pub pick_in : Best → Rust·Option Pick
 pick_in Nothing = None
 pick_in (Fair k) = Some k
 pick_in (Sure k) = Some k
 
 -- whether it ends the search
-unfoldable pub is_sure : Best → Bool
+abbrev pub is_sure : Best → Bool
 is_sure Nothing = false
 is_sure (Fair k) = false
 is_sure (Sure k) = true
 
 -- its mark
-unfoldable pub mark_in : Best → Mark
+abbrev pub mark_in : Best → Mark
 mark_in Nothing = Mark.Lost
 mark_in (Fair k) = Mark.Fair
 mark_in (Sure k) = Mark.Sure
@@ -91,7 +90,7 @@ judged_by A o w f =
 
 -- a pick's numbers are small, and its positions those of a word of n bits
 pub record Sound (n : ℕ) (k : Pick) : Type 0 where
-  pub placed : Placed n k.flips.count k.flips.at
+  pub placed : Below n (flips_of k.flips)
   pub sum_small : k.weight.sum < 65536
   pub allowed_small : k.allowed < 65536
 
