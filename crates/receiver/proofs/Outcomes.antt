@@ -34,14 +34,14 @@ module _ (p : ℕ) (ss : List ℕ) where
   -- the better of two: the second where it is nearer, ..
   better_new : (b : Best) (k : Pick) → is_nearer b k.weight.sum ≡ true
       → better (best_of p ss b) (candidate_of p ss k) ≡ some (candidate_of p ss k)
-  unfolding best_of is_nearer
+  unfolding best_of
   better_new Nothing k near = better_first (candidate_of p ss k)
   better_new (Fair b) k near = better_nearer (candidate_of p ss b) (candidate_of p ss k) (ltb-true k.weight.sum b.weight.sum near)
   better_new (Sure b) k near = better_nearer (candidate_of p ss b) (candidate_of p ss k) (ltb-true k.weight.sum b.weight.sum near)
 
   -- .. and otherwise the first
   better_old : (b : Best) (k : Pick) → is_nearer b k.weight.sum ≡ false → better (best_of p ss b) (candidate_of p ss k) ≡ best_of p ss b
-  unfolding best_of is_nearer
+  unfolding best_of
   better_old Nothing k far = no_bool far
   better_old (Fair b) k far = better_kept (candidate_of p ss b) (candidate_of p ss k) (ltb-false k.weight.sum b.weight.sum far)
   better_old (Sure b) k far = better_kept (candidate_of p ss b) (candidate_of p ss k) (ltb-false k.weight.sum b.weight.sum far)
@@ -109,7 +109,7 @@ module _ (code : Code) (p : ℕ) (ss : List ℕ) where
     -- one that is farther than the best so far
     turn_farther : (b : Best) → best_of p ss b ≡ best_of p ss o.best → is_farther b w.sum ≡ true
         → search_from code p ss (2 ^ p - (j + 1)) (j + 1) (best_of p ss o.best) ≡ soft_stage code p ss
-    unfolding is_farther best_of
+    unfolding best_of
     turn_farther Nothing e far = no_bool (sym far)
     turn_farther (Fair b) e far =
         sym (step_far code is_code p ss long symbols j more k gives (candidate_of p ss b) (backed _ (sym e))
@@ -127,7 +127,7 @@ module _ (code : Code) (p : ℕ) (ss : List ℕ) where
         ∙ sym (step_on code p ss (2 ^ p) j (best_of p ss o.best) more k gives l) ∙ old
 
     pub tried_judged : Tried code p ss (judged_by A o w f)
-    unfolding judged_by best_of answer_in
+    unfolding best_of answer_in
     tried_judged = go (is_farther o.best w.sum) refl (leb w.sum A) refl (is_nearer o.best w.sum) refl
       where
         kept : search_from code p ss (2 ^ p - o.tries) o.tries (best_of p ss o.best) ≡ soft_stage code p ss → Tried code p ss o
@@ -158,7 +158,6 @@ module _ (code : Code) (p : ℕ) (ss : List ℕ) where
 
 -- judging a candidate counts no try
 pub judged_tries : (A : ℕ) (o : Outcome) (w : Weight) (f : Flips) → (judged_by A o w f).tries ≡ o.tries
-unfolding judged_by
 judged_tries A o w f = go (is_farther o.best w.sum) (leb w.sum A) (is_nearer o.best w.sum)
   where
     go : (x y z : Bool) → (cond x o (cond y (record { tries = o.tries; best = Sure (pick_by A o w f) })

@@ -1,7 +1,7 @@
 -- A turn of the search: from the outcome so far and what the next tries locate, the outcome after them. Assumes nothing.
 use Prim.Native.Nat.{ℕ, ◌-◌, ◌/◌, ◌^◌, ◌≤◌, ◌<◌}
 use native.Mathlib.Omega.{arith}
-use mathlib.Core.Path.{◌≡◌, refl, sym, ◌∙◌, subst}
+use mathlib.Core.Path.{◌≡◌, refl, ap, sym, ◌∙◌, subst}
 use mathlib.Core.Bool.{true, false}
 use mathlib.Core.List.{List, ◌++◌}
 use mathlib.Core.Option.{none, some, map}
@@ -32,7 +32,7 @@ use Rattle.receiver.specs.declared.flips.Flips.{Flips}
 use Rattle.receiver.specs.declared.weighing.Weight.{Weight}
 use Rattle.receiver.specs.declared.search.Outcome.{Outcome}
 use Rattle.receiver.specs.declared.search.Search.{Search}
-use Rattle.receiver.proofs.Outcomes.{tried_missed, tried_judged}
+use Rattle.receiver.proofs.Outcomes.{tried_missed, judged_tries, tried_judged}
 
 -- the first test words, by doubling
 pub test_words : (c : Code) (p b to : ℕ) (ss ts : List ℕ) → b ≤ p → to ≡ 2 ^ b → to ≤ 64 → length ts ≡ 64 → Holds (packed_test c p ss) (2 ^ b) ts
@@ -125,7 +125,7 @@ module _ (s : Search) where
         -- its candidate is judged
         module _ (w : Weight) (weighs : Weighs (reliabilities ss) (flipped_at (flips_of f) (test p ss (tries - 1))) (hard_bits ss) w.q w.sum) where
           abbrev d : ℕ
-          d = design_distance (code_of c)
+          d = s.word.now.d
 
           abbrev A : ℕ
           A = unflipped_sum (flips_of f) j (d - w.q) (take d ls)
@@ -138,23 +138,32 @@ module _ (s : Search) where
               let small =
               weighs_small ss (flipped_at (flips_of f) (test p ss j)) w.q w.sum deep.ready.most
               (length_candidate ss ks p deep.ready j (flips_of f)) weighs in
-              let most = unflipped_small d ss ks ls p deep (flips_of f) j (d - w.q) in
+              let most = unflipped_small d ss ks ls p s.word.now.deep (flips_of f) j (d - w.q) in
               record {
                 placed = distinct_below c.n (flips_of f) places_distinct;
                 sum_small = omega (arith, small.1);
-                allowed_small = omega (arith, most, lawful.t_most);
+                allowed_small = omega (arith, most, s.word.now.few);
               }
 
           gives : map (candidate (code_of c) p ss j) (tried (code_of c) p ss j) ≡ some (candidate_of p ss (pick_by A counted w f))
           gives =
               try_some c.m c.t c.n lawful numbers s.tables.now.filled.tables ss ks ls p deep s.long j (sums_at ts j)
-              (are_sums j j_lt) true f.count f.at at_j refl w.q w.sum A (omega (arith, j_lt, tests.most)) weighs refl
+              (are_sums j j_lt) true f.count f.at at_j refl w.q w.sum A (omega (arith, j_lt, tests.most)) weighs
+              (ap (λ (d : ℕ). unflipped_sum (flips_of f) j (d - w.q) (take d ls)) s.apart)
 
-          pub turn_judged : Tried (code_of c) p ss (judged_by A counted w f)
+          judged : Tried (code_of c) p ss (judged_by A counted w f)
           unfolding is_found
-          turn_judged =
+          judged =
               let (more, gone, _) = next.there refl in
               let e = skip (code_of c) p ss (2 ^ p) (j - o.tries) o.tries j (best_of p ss o.best) (omega arith) (omega (arith, tests.most, next.most))
               (λ i l u. missed i (omega (arith, next.most)) (gone i l u)) in
               tried_judged (code_of c) p ss lawful s.long deep.ready.symbols counted unsure j (omega arith)
               (omega (arith, tests.most, next.most)) t.sound t.backed (sym e ∙ t.going unsure) A w f sound gives
+
+          -- .. and more tries are made, but no more than there are
+          pub turn_judged : (out : Outcome) → out ≡ judged_by A counted w f
+              → Tried (code_of c) p ss out × (o.tries < out.tries) × (out.tries ≤ length ts)
+          unfolding is_found
+          turn_judged out e =
+              let made : out.tries ≡ tries = rw e (judged_tries A counted w f) in
+              (rw e judged, omega (arith, made, (next.there refl).0), omega (arith, made, next.most))

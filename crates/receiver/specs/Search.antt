@@ -65,13 +65,13 @@ module _ (p : ℕ) (ss : List ℕ) where
   outcome_of o = answer_in o.tries o.best
 
 -- a candidate of distance L is farther than the best so far, where there is one
-unfoldable pub is_farther : Best → ℕ → Bool
+abbrev pub is_farther : Best → ℕ → Bool
 is_farther Nothing L = false
 is_farther (Fair k) L = ltb k.weight.sum L
 is_farther (Sure k) L = ltb k.weight.sum L
 
 -- a candidate of distance L is nearer than the best so far, or there is none
-unfoldable pub is_nearer : Best → ℕ → Bool
+abbrev pub is_nearer : Best → ℕ → Bool
 is_nearer Nothing L = true
 is_nearer (Fair k) L = ltb L k.weight.sum
 is_nearer (Sure k) L = ltb L k.weight.sum
@@ -81,8 +81,7 @@ abbrev pub pick_by : ℕ → Outcome → Weight → Flips → Pick
 pick_by A o w f = record { weight = w; allowed = A; place = o.tries - 1; flips = f }
 
 -- an outcome with that candidate
-unfoldable pub judged_by : ℕ → Outcome → Weight → Flips → Outcome
-unfolding is_farther is_nearer
+abbrev pub judged_by : ℕ → Outcome → Weight → Flips → Outcome
 judged_by A o w f =
     cond (is_farther o.best w.sum) o
     (cond (leb w.sum A) (record { tries = o.tries; best = Sure (pick_by A o w f) })
