@@ -1,11 +1,14 @@
--- A turn of the search: from the outcome so far and what the next tries locate, the outcome after them. Assumes nothing.
-use Prim.Native.Nat.{ℕ, ◌-◌, ◌/◌, ◌^◌, ◌≤◌, ◌<◌}
+-- The test words by doubling, and a turn of the search: from the outcome so far and what the next tries locate, the outcome after them.
+-- Assumes nothing.
+use Prim.Native.Nat.{ℕ, ◌+◌, ◌-◌, ◌*◌, ◌/◌, ◌^◌, ◌≤◌, ◌<◌}
+use native.Mathlib.Nat.{pow-succ'}
+use native.Mathlib.Numerals.{add-one}
 use native.Mathlib.Omega.{arith}
 use mathlib.Core.Path.{◌≡◌, refl, ap, sym, ◌∙◌, subst}
 use mathlib.Core.Bool.{true, false}
 use mathlib.Core.List.{List, ◌++◌}
 use mathlib.Core.Option.{none, some, map}
-use lib.ListN.{length, get_or, take}
+use lib.ListN.{length, get_or, take, replicate, length-replicate, length-take}
 use lib.Pow.{pow_mono}
 use lib.Seq.{length-take-le, get_or-take}
 use Rattle.std.specs.Prelude.{Option as Rust·Option, Some, None}
@@ -18,8 +21,9 @@ use Rattle.bch.proofs.codes.Settings.{Lawful}
 use Rattle.chase.specs.Soft.{hard_bits, reliabilities, candidate, tried}
 use Rattle.chase.specs.Word.{test}
 use Rattle.chase.proofs.ranking.Allowances.{unflipped_sum}
-use Rattle.chase.proofs.test_words.Doublings.{Holds}
-use Rattle.chase.proofs.search.Ready.{Deep, packed_test, length_candidate, test_sums, test_weight, unflipped_small}
+use Rattle.chase.proofs.test_words.Doublings.{Doubled, Holds, Small, size_most}
+use Rattle.chase.proofs.search.Ready.{Deep, packed_test, flipped_more, length_candidate}
+use Rattle.chase.proofs.search.Ready.{test_sums, test_weight, tests_first, tests_next, tests_small, unflipped_small}
 use Rattle.chase.proofs.search.Steps.{skip}
 use Rattle.chase.proofs.search.Tries.{try_parts, try_missed, try_placed, try_distinct, try_some}
 use Rattle.chase.proofs.weighing.Weights.{Weighs, packed_weight, weighs_small}
@@ -33,16 +37,6 @@ use Rattle.receiver.specs.declared.weighing.Weight.{Weight}
 use Rattle.receiver.specs.declared.search.Outcome.{Outcome}
 use Rattle.receiver.specs.declared.search.Search.{Search}
 use Rattle.receiver.proofs.Outcomes.{tried_missed, judged_tries, tried_judged}
-
--- the first test words, by doubling
-pub test_words : (c : Code) (p b to : ℕ) (ss ts : List ℕ) → b ≤ p → to ≡ 2 ^ b → to ≤ 64 → length ts ≡ 64 → Holds (packed_test c p ss) (2 ^ b) ts
-    → TestWords c p ss (take to ts) × (length (take to ts) ≡ to)
-test_words c p b to ss ts h e m l holds =
-    let long = length-take-le to ts (omega arith) in
-    let most : 2 ^ b ≤ 2 ^ p = pow_mono h in (
-      record { most = omega arith; are_tests = λ j i. (let k : j < to = omega arith in get_or-take to ts j 0 k ∙ holds j (omega arith)) },
-      long,
-    )
 
 module _ (s : Search) where
   abbrev c : refusal.Code
@@ -69,6 +63,70 @@ module _ (s : Search) where
 
   pub deep : Deep (design_distance (code_of c)) ss ks ls p
   deep = subst (λ (d : ℕ). Deep d ss ks ls p) s.apart s.word.now.deep
+
+  -- ---- the test words, by doubling
+
+  -- those of the first b weak positions
+  pub record Grown (b to : ℕ) (ts : List ℕ) : Type 0 where
+    pub within : b ≤ p
+    pub size : to ≡ 2 ^ b
+    pub long : length ts ≡ 64
+    pub holds : Holds (packed_test (code_of c) p ss) (2 ^ b) ts
+
+  -- of none, ..
+  pub grown_first : (base : ℕ) → base ≡ syndromes_of (code_of c) (hard_bits ss) → Grown 0 1 (replicate 64 base)
+  grown_first base e =
+      record {
+        within = omega arith;
+        size = refl;
+        long = length-replicate 64 base;
+        holds = tests_first ss ks p deep.ready (code_of c) lawful base (replicate 64 base) e refl;
+      }
+
+  module _ (b to : ℕ) (ts : List ℕ) (grown : Grown b to ts) where
+    -- .. of one more, for which there is room, ..
+    module _ (more : b < length (take p ks)) where
+      below : b < p
+      below = omega (arith, length-take p ks)
+
+      twice : 2 * to ≡ 2 ^ (b + 1)
+      twice =
+          let double : 2 ^ (b + 1) ≡ 2 * 2 ^ b = rw (add-one, pow-succ' 2 b) refl in
+          omega (arith, grown.size)
+
+      pub grown_room : (2 * to ≤ length ts) × Small 576460752303423488 to ts
+      grown_room = (
+          omega (arith, size_most b (omega (arith, below, deep.ready.depth)), grown.size, grown.long),
+          tests_small ss ks p deep.ready (code_of c) lawful b to ts grown.size grown.holds,
+        )
+
+      pub grown_next : (new : List ℕ) → Doubled (flipped_more (code_of c) (get_or (take p ks) b 0)) to ts new → Grown (b + 1) (2 * to) new
+      grown_next new d =
+          let key = get_or-take p ks b 0 below in
+          record {
+            within = omega (arith, below);
+            size = twice;
+            long = d.long ∙ grown.long;
+            holds = tests_next ss ks p deep.ready (code_of c) lawful b to ts new below grown.size (rw key at d) grown.holds;
+          }
+
+    -- .. and the slice of them
+    pub grown_tests : (to ≤ length ts) × (to ≡ length (take to ts)) × TestWords (code_of c) p ss (take to ts)
+    grown_tests =
+        let six : b ≤ 6 = omega (arith, grown.within, deep.ready.depth) in
+        let depth : 2 ^ b ≤ 64 = pow_mono six in
+        let most : 2 ^ b ≤ 2 ^ p = pow_mono grown.within in
+        let room : to ≤ length ts = omega (arith, grown.size, grown.long) in
+        let long = length-take-le to ts room in (
+          room,
+          sym long,
+          record {
+            most = omega (arith, grown.size);
+            are_tests = λ j i. (let k : j < to = omega arith in get_or-take to ts j 0 k ∙ grown.holds j (omega (arith, grown.size)));
+          },
+        )
+
+  -- ---- the tries
 
   module _ (ts : List ℕ) (tests : TestWords (code_of c) p ss ts) where
     -- the syndromes in test word j
