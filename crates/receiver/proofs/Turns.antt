@@ -6,10 +6,10 @@ use native.Mathlib.Numerals.{add-one}
 use native.Mathlib.Omega.{arith}
 use mathlib.Core.Path.{◌≡◌, refl, ap, sym, ◌∙◌, subst}
 use mathlib.Core.Bool.{true, false}
-use mathlib.Core.List.{List, ◌++◌}
+use mathlib.Core.List.{List, [], ◌∷◌, ◌++◌}
 use mathlib.Core.Option.{none, some, map}
 use lib.ListN.{length, get_or, take, replicate, length-replicate, length-take}
-use lib.Pow.{pow_mono}
+use lib.Pow.{pow_mono, pow_pos}
 use lib.Seq.{length-take-le, get_or-take}
 use Rattle.std.specs.Prelude.{Option as Rust·Option, Some, None}
 use Rattle.bch.specs.Words.{Distinct, flipped_at}
@@ -65,6 +65,11 @@ module _ (s : Search) where
   deep = subst (λ (d : ℕ). Deep d ss ks ls p) s.apart s.word.now.deep
 
   -- ---- the test words, by doubling
+
+  -- test word 0 alone has the syndromes of the hard bits
+  pub first_tests : (base : ℕ) → base ≡ syndromes_of (code_of c) (hard_bits ss) → TestWords (code_of c) p ss (base ∷ [])
+  first_tests base e =
+      record { most = pow_pos p; are_tests = tests_first ss ks p deep.ready (code_of c) lawful base (base ∷ []) e refl }
 
   -- those of the first b weak positions
   pub record Grown (b to : ℕ) (ts : List ℕ) : Type 0 where
