@@ -18,7 +18,7 @@ module _ (p : ℕ) (ss : List ℕ) (tries : ℕ) where
   -- the answer's case, beside the word written
   told_answer : (old : List ℕ) (b : Best)
       → soft_of (Ok (told tries b)) (soft_written (answer_in p ss tries b) old) ≡ inr (answer_in p ss tries b)
-  unfolding answer_of found_of told soft_written answer_in
+  unfolding answer_of found_of soft_written answer_in
   told_answer old Nothing = refl
   told_answer old (Fair k) = refl
   told_answer old (Sure k) = refl
@@ -29,22 +29,20 @@ module _ (p : ℕ) (ss : List ℕ) (tries : ℕ) where
   answer_told old b w a r e f g =
       ap₂ (λ (r : Soft) (w : List ℕ). soft_of (Ok r) w) g (e ∙ ap (λ (x : Answer). soft_written x old) (sym f)) ∙ told_answer old b ∙ ap inr f
 
-  -- ---- what is written
+  -- what is written: nothing where nothing is found, ..
+  pub written_none : (from : ℕ) (old : List ℕ) (b : Best) (a : Answer) → answer_in p ss tries b ≡ a → pick_in b ≡ None → old ≡ written_from from a old
+  unfolding answer_in written_from
+  written_none from old Nothing a e is = rw (← e) refl
+  written_none from old (Fair k) a e is = cc
+  written_none from old (Sure k) a e is = cc
 
-  module _ (from : ℕ) (old : List ℕ) where
-    -- nothing where nothing is found, ..
-    pub written_none : (b : Best) → pick_in b ≡ None → old ≡ written_from from (answer_in p ss tries b) old
-    unfolding answer_in written_from
-    written_none Nothing e = refl
-    written_none (Fair k) e = cc
-    written_none (Sure k) e = cc
-
-    -- .. and else the candidate's word from there on
-    pub written_some : (b : Best) (k : Pick) → pick_in b ≡ Some k → drop from (candidate_of p ss k).word ≡ written_from from (answer_in p ss tries b) old
-    unfolding answer_in written_from
-    written_some Nothing k e = cc
-    written_some (Fair b) k e = let q : b ≡ k = cc in rw q refl
-    written_some (Sure b) k e = let q : b ≡ k = cc in rw q refl
+  -- .. and else the candidate's word from there on
+  pub written_some : (from : ℕ) (old : List ℕ) (b : Best) (a : Answer) (k : Pick) → answer_in p ss tries b ≡ a → pick_in b ≡ Some k
+      → drop from (candidate_of p ss k).word ≡ written_from from a old
+  unfolding answer_in written_from
+  written_some from old Nothing a k e is = cc
+  written_some from old (Fair b) a k e is = let q : b ≡ k = cc in rw (← e, q) refl
+  written_some from old (Sure b) a k e is = let q : b ≡ k = cc in rw (← e, q) refl
 
 -- from position 0 on, the whole codeword
 pub written_whole : (a : Answer) (old : List ℕ) → written_from 0 a old ≡ soft_written a old

@@ -120,7 +120,7 @@ found_by tries k =
     record { distance = k.weight.sum; margin = sub_ℕ k.allowed k.weight.sum; flips = k.weight.q; place = k.place; tries = tries }
 
 -- the answer's case for an outcome
-unfoldable pub told : ℕ → Best → Soft
+abbrev pub told : ℕ → Best → Soft
 told tries Nothing = Soft.Lost tries
 told tries (Fair k) = Soft.Fair (found_by tries k)
 told tries (Sure k) = Soft.Sure (found_by tries k)
