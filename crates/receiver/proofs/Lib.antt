@@ -1,3 +1,2 @@
 pub mod HighBits
-pub mod Margins
 pub mod Places
