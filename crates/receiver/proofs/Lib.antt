@@ -1,2 +1,4 @@
 pub mod HighBits
+pub mod Placed
 pub mod Places
+pub mod Powers
