@@ -1,14 +1,14 @@
 -- The positions that are located. Cited by the contracts of private functions alone. Assumes nothing.
-use Rattle.std.specs.Prelude.{ℕ, ◌/◌, ◌%◌, ◌^◌, ◌≤◌, ◌<◌, ◌≡◌, Bool, true, false, List, [], map, length, get_or, take, Option as Rust·Option, Some, None}
+use Rattle.std.specs.Prelude.{ℕ, ◌/◌, ◌%◌, ◌^◌, ◌≤◌, ◌<◌, ◌≡◌, List, [], map, length, get_or, take, is_some, IfSome, Option as Rust·Option, Some, None}
 use Rattle.std.proofs.Math.Option.{Option, some, none}
-use Rattle.bch.specs.Words.{Bits}
+use Rattle.bch.specs.Words.{Bits, Below}
 use Rattle.bch.proofs.logarithms.LogSteps.{Ordered}
 use Rattle.bch.proofs.logarithms.LogAnswers.{syndromes_of}
 use Rattle.bch.proofs.logarithms.LogBounds.{Syndromes}
 use Rattle.bch.proofs.logarithms.LogLocator.{rising_in}
 use Rattle.bch.proofs.logarithms.Repairs.{Repairs}
 use Rattle.bch.proofs.logarithms.Seeking.{Next}
-use Rattle.bch.proofs.tables.Placing.{Placed, positions}
+use Rattle.bch.proofs.tables.Placing.{positions}
 use Rattle.refusal.specs.Named.{code_of}
 use Rattle.refusal.specs.declared.Code as refusal
 use Rattle.receiver.specs.declared.flips.Flips.{Flips}
@@ -21,22 +21,18 @@ bits_at shift xs = map (λ (x : ℕ). x / 2 ^ shift) xs
 abbrev pub flips_of : Flips → List ℕ
 flips_of f = take f.count f.at
 
--- whether there are positions, how many, and where they stand
-unfoldable pub is_found : Rust·Option Flips → Bool
-is_found None = false
-is_found (Some f) = true
-
-unfoldable pub count_of : Rust·Option Flips → ℕ
+-- how many positions there are, and where they stand
+abbrev pub count_of : Rust·Option Flips → ℕ
 count_of None = 0
 count_of (Some f) = f.count
 
-unfoldable pub places_in : Rust·Option Flips → List ℕ
+abbrev pub places_in : Rust·Option Flips → List ℕ
 places_in None = []
 places_in (Some f) = f.at
 
 -- they are those found, in rising order, or none is
 abbrev pub Located : Rust·Option Flips → Option (List ℕ) → Type 0
-Located f o = Ordered (positions (is_found f) (count_of f) (places_in f)) o
+Located f o = Ordered (positions (is_some f) (count_of f) (places_in f)) o
 
 -- the syndromes that number j holds, below 2^32, ..
 abbrev pub sums_at : List ℕ → ℕ → ℕ
@@ -52,12 +48,11 @@ located_at c tables tests j = rising_in c.m c.t c.n tables (sums_at tests j)
 
 -- after so many tries are made, those until positions are located, and the positions
 abbrev pub Sought : refusal.Code → List ℕ → List ℕ → ℕ → ℕ → Rust·Option Flips → Type 0
-Sought c tables tests made tries f = Next (located_at c tables tests) made (length tests) tries (is_found f) (count_of f) (places_in f)
+Sought c tables tests made tries f = Next (located_at c tables tests) made (length tests) tries (is_some f) (count_of f) (places_in f)
 
--- they are where the hard stage flips a word, and places in it
+-- they are where the hard stage flips a word, and positions of it
 abbrev pub Repaired : refusal.Code → List ℕ → Rust·Option Flips → Type 0
-Repaired c xs f =
-    Repairs (code_of c) xs (is_found f) (count_of f) (places_in f) × (is_found f ≡ true → Placed c.n (count_of f) (places_in f))
+Repaired c xs f = Repairs (code_of c) xs (is_some f) (count_of f) (places_in f) × IfSome f (λ k. Below c.n (flips_of k))
 
 -- they are so for every word of these syndromes
 abbrev pub Repairing : refusal.Code → ℕ → Rust·Option Flips → Type 0

@@ -15,6 +15,7 @@ ghost use Rattle.std.specs.Prelude.{◌≡◌, ◌≢◌, ◌+◌, ◌-◌, ◌*
 ghost use Rattle.galois.specs.Field.{alpha, double, poly};
 ghost use Rattle.galois.proofs.FieldTables.{Zeros};
 ghost use Rattle.bch.proofs.tables.CodeTables.{folded, reduced as CodeTables·reduced, log_in, powers_in, roots_in};
+ghost use Rattle.bch.proofs.tables.RootFills.{behind as RootFills·behind};
 ghost use Rattle.bch.proofs.tables.TableFills.{FieldPart, stage, Adds};
 ghost use Rattle.bch.proofs.tables.TableLoops.{Again, FieldFilled, PairPart, RootPart, Rootless};
 ghost use Rattle.refusal.specs.Named.{Made};
@@ -112,9 +113,14 @@ fn add_powers(c: Code, t: usize, d: usize, scale: u32, numbers: &mut [u32])
         return;
     }
     let mut e = 0;
-    for i in 0..c.period {
-        numbers[c.powers + i] += scale * (numbers[c.powers + e] % 1024);
-        e = reduced(c.period, e + d);
+    let mut i = 0;
+    for _ in 0..d {
+        while e < c.period {
+            numbers[c.powers + i] += scale * (numbers[c.powers + e] % 1024);
+            e += d;
+            i += 1;
+        }
+        e -= c.period;
     }
 }
 
@@ -126,12 +132,21 @@ fn fill_quadratics(c: Code, numbers: &mut [u32])
     if c.t != 2 {
         return;
     }
-    for w in (2..c.period).step_by(2) {
+    for h in 1..c.powers / 2 {
+        let w = 2 * h;
         let a = numbers[w];
         let b = numbers[w + 1];
         let e = reduced(c.period, (a + b) as usize);
         numbers[c.roots + e] = a + 1024 * b;
     }
+}
+
+// e - d below the period.
+fn behind(e: usize, d: usize, period: usize) -> usize
+    requires { (e < period) × (d < period) × (period ≤ 1024) }
+    ensures { (result ≡ RootFills·behind period e d) × (result < period) }
+{
+    if d <= e { e - d } else { e + period - d }
 }
 
 // Where t = 3, for w^3 / (w + 1), by its logarithm: the logarithms of two such w, the last ones.
@@ -143,12 +158,16 @@ fn fill_kappas(c: Code, numbers: &mut [u32])
         return;
     }
     let mut e = 3;
-    for l in 1..c.period {
-        let x = numbers[c.powers + l] % 1024 ^ 1;
-        let k = reduced(c.period, e + c.period - numbers[x as usize] as usize);
-        let at = c.roots + k;
-        numbers[at] = numbers[at] % 1024 * 1024 + l as u32;
-        e = reduced(c.period, e + 3);
+    let mut l = 1;
+    for _ in 0..3usize {
+        while e < c.period {
+            let x = numbers[c.powers + l] % 1024 ^ 1;
+            let at = c.roots + behind(e, numbers[x as usize] as usize, c.period);
+            numbers[at] = numbers[at] % 1024 * 1024 + l as u32;
+            e += 3;
+            l += 1;
+        }
+        e -= c.period;
     }
 }
 
