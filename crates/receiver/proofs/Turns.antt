@@ -30,7 +30,7 @@ use Rattle.chase.proofs.weighing.Weights.{Weighs, packed_weight, weighs_small}
 use Rattle.refusal.specs.Named.{code_of}
 use Rattle.refusal.specs.declared.Code as refusal
 use Rattle.receiver.specs.Held.{code_in, numbers_in}
-use Rattle.receiver.specs.Located.{flips_of, is_found, count_of, places_in, sums_at, AreSyndromes, located_at, Sought}
+use Rattle.receiver.specs.Located.{flips_of, sums_at, AreSyndromes, located_at, Sought}
 use Rattle.receiver.specs.Search.{is_sure, candidate_of, best_of, pick_by, judged_by, Sound, Tried, TestWords}
 use Rattle.receiver.specs.declared.flips.Flips.{Flips}
 use Rattle.receiver.specs.declared.weighing.Weight.{Weight}
@@ -152,7 +152,6 @@ module _ (s : Search) where
       -- nothing is located
       pub turn_missed : Sought c numbers ts o.tries tries None
           → Tried (code_of c) p ss (record { tries = tries; best = o.best }) × (tries ≡ length ts)
-      unfolding is_found
       turn_missed next =
           let (all, none-there) = next.ended refl in (
             tried_missed (code_of c) p ss o unsure t tries next.least (omega (arith, tests.most))
@@ -165,11 +164,9 @@ module _ (s : Search) where
         j = tries - 1
 
         j_lt : tries - 1 < length ts
-        unfolding is_found
         j_lt = omega (arith, (next.there refl).0, next.most)
 
         at_j : positions true f.count f.at ≡ located_at c numbers ts (tries - 1)
-        unfolding is_found count_of places_in
         at_j = (next.there refl).2
 
         -- the test word that is located has this weight, ..
@@ -215,7 +212,6 @@ module _ (s : Search) where
               (ap (λ (d : ℕ). unflipped_sum (flips_of f) j (d - w.q) (take d ls)) s.apart)
 
           judged : Tried (code_of c) p ss (judged_by A counted w f)
-          unfolding is_found
           judged =
               let (more, gone, _) = next.there refl in
               let e = skip (code_of c) p ss (2 ^ p) (j - o.tries) o.tries j (best_of p ss o.best) (omega arith) (omega (arith, tests.most, next.most))
@@ -226,7 +222,6 @@ module _ (s : Search) where
           -- .. and more tries are made, but no more than there are
           pub turn_judged : (out : Outcome) → out ≡ judged_by A counted w f
               → Tried (code_of c) p ss out × (o.tries < out.tries) × (out.tries ≤ length ts)
-          unfolding is_found
           turn_judged out e =
               let made : out.tries ≡ tries = rw e (judged_tries A counted w f) in
               (rw e judged, omega (arith, made, (next.there refl).0), omega (arith, made, next.most))
