@@ -1,5 +1,8 @@
 pub mod HighBits
-pub mod Margins
+pub mod Marks
+pub mod Outcomes
 pub mod Placed
 pub mod Places
 pub mod Powers
+pub mod Tellings
+pub mod Turns

@@ -4,9 +4,8 @@ use Rattle.std.specs.Prelude.{ℕ, ◌-◌, ◌^◌, ◌≤◌, ◌<◌, ◌≡�
 use Rattle.std.proofs.Math.Bool.{cond}
 use Rattle.std.proofs.Math.Option.{Option, none, some}
 use Rattle.std.proofs.Math.IntN.{sub_ℕ}
-use Rattle.bch.specs.Words.{flipped_at}
+use Rattle.bch.specs.Words.{Below, flipped_at}
 use Rattle.bch.specs.Code.{Code}
-use Rattle.bch.proofs.tables.Placing.{Placed}
 use Rattle.chase.specs.Soft.{Answer, Candidate, answer, lost_answer, lost, fair, sure, search_from, soft_stage}
 use Rattle.chase.specs.Word.{test}
 use Rattle.chase.proofs.test_words.Doublings.{Holds}
@@ -26,19 +25,19 @@ use Rattle.receiver.specs.declared.Soft.TheVariants as Soft
 use Rattle.receiver.specs.Located.{flips_of}
 
 -- the best candidate, where there is one
-unfoldable pub pick_in : Best → Rust·Option Pick
+abbrev pub pick_in : Best → Rust·Option Pick
 pick_in Nothing = None
 pick_in (Fair k) = Some k
 pick_in (Sure k) = Some k
 
 -- whether it ends the search
-unfoldable pub is_sure : Best → Bool
+abbrev pub is_sure : Best → Bool
 is_sure Nothing = false
 is_sure (Fair k) = false
 is_sure (Sure k) = true
 
 -- its mark
-unfoldable pub mark_in : Best → Mark
+abbrev pub mark_in : Best → Mark
 mark_in Nothing = Mark.Lost
 mark_in (Fair k) = Mark.Fair
 mark_in (Sure k) = Mark.Sure
@@ -66,13 +65,13 @@ module _ (p : ℕ) (ss : List ℕ) where
   outcome_of o = answer_in o.tries o.best
 
 -- a candidate of distance L is farther than the best so far, where there is one
-unfoldable pub is_farther : Best → ℕ → Bool
+abbrev pub is_farther : Best → ℕ → Bool
 is_farther Nothing L = false
 is_farther (Fair k) L = ltb k.weight.sum L
 is_farther (Sure k) L = ltb k.weight.sum L
 
 -- a candidate of distance L is nearer than the best so far, or there is none
-unfoldable pub is_nearer : Best → ℕ → Bool
+abbrev pub is_nearer : Best → ℕ → Bool
 is_nearer Nothing L = true
 is_nearer (Fair k) L = ltb L k.weight.sum
 is_nearer (Sure k) L = ltb L k.weight.sum
@@ -82,8 +81,7 @@ abbrev pub pick_by : ℕ → Outcome → Weight → Flips → Pick
 pick_by A o w f = record { weight = w; allowed = A; place = o.tries - 1; flips = f }
 
 -- an outcome with that candidate
-unfoldable pub judged_by : ℕ → Outcome → Weight → Flips → Outcome
-unfolding is_farther is_nearer
+abbrev pub judged_by : ℕ → Outcome → Weight → Flips → Outcome
 judged_by A o w f =
     cond (is_farther o.best w.sum) o
     (cond (leb w.sum A) (record { tries = o.tries; best = Sure (pick_by A o w f) })
@@ -91,7 +89,7 @@ judged_by A o w f =
 
 -- a pick's numbers are small, and its positions those of a word of n bits
 pub record Sound (n : ℕ) (k : Pick) : Type 0 where
-  pub placed : Placed n k.flips.count k.flips.at
+  pub placed : Below n (flips_of k.flips)
   pub sum_small : k.weight.sum < 65536
   pub allowed_small : k.allowed < 65536
 
@@ -122,7 +120,7 @@ found_by tries k =
     record { distance = k.weight.sum; margin = sub_ℕ k.allowed k.weight.sum; flips = k.weight.q; place = k.place; tries = tries }
 
 -- the answer's case for an outcome
-unfoldable pub told : ℕ → Best → Soft
+abbrev pub told : ℕ → Best → Soft
 told tries Nothing = Soft.Lost tries
 told tries (Fair k) = Soft.Fair (found_by tries k)
 told tries (Sure k) = Soft.Sure (found_by tries k)

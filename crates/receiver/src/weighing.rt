@@ -102,11 +102,16 @@ impl<'a> Ranked<'a> {
     }
 }
 
-// Whether x is one of the positions.
+// Whether x is one of the positions. (Written out by their number: a slice of them is a loop, which takes up to a tenth longer where t is 3.)
 fn is_among(f: &Flips, x: usize) -> bool
     ensures { result ≡ is_in x (flips_of f.now) }
 {
-    f.at[..f.count].contains(&x)
+    match f.count {
+        0 => false,
+        1 => x == f.at[0],
+        2 => x == f.at[0] || x == f.at[1],
+        _ => x == f.at[0] || x == f.at[1] || x == f.at[2],
+    }
 }
 
 // Whether a candidate flips position x: where it is one of those located, or the test word flips it, which the lowest bit of r tells, and not

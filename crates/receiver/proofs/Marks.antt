@@ -1,0 +1,50 @@
+-- The mark, the tries and the word of a word's answer, by the outcome that it stands for or by its case. Assumes nothing.
+use Prim.Native.Nat.{ℕ}
+use native.Mathlib.Omega.{arith}
+use mathlib.Core.Path.{◌≡◌, refl, ap}
+use mathlib.Core.Logic.{◌⊎◌, ◌≢◌, inl, inr}
+use mathlib.Core.List.{List, []}
+use lib.ListN.{drop}
+use Rattle.std.specs.Prelude.{Result, Ok, Err}
+use Rattle.chase.specs.Soft.{Answer, Mark, lost, fair, sure, answer, lost_answer}
+use Rattle.take_format.specs.Batch.{mark_byte, Totals, counted_of, capped, counted_answer}
+use Rattle.take_format.specs.Refusal as take_format
+use Rattle.refusal.specs.Checked.{answer_of}
+use Rattle.refusal.specs.declared.Refusal.{Refusal}
+use Rattle.receiver.specs.Answer.{found_of, soft_of, byte_of}
+use Rattle.receiver.specs.Search.{answer_in, written_from, mark_in}
+use Rattle.receiver.specs.declared.search.Best.{Best}
+use Rattle.receiver.specs.declared.search.Best.TheVariants as Best
+use Rattle.receiver.specs.declared.Soft.{Soft}
+use Rattle.receiver.specs.declared.Soft.TheVariants.{Lost, Fair, Sure}
+
+-- ---- an outcome
+
+-- its mark and its tries are the answer's
+pub outcome_told : (p : ℕ) (ss : List ℕ) (tries : ℕ) (b : Best) (a : Answer) → answer_in p ss tries b ≡ a
+    → (byte_of (mark_in b) ≡ mark_byte a.mark) × (tries ≡ a.tries)
+unfolding answer_in answer lost_answer
+outcome_told p ss tries Best.Nothing a e = rw (← e) (refl, refl)
+outcome_told p ss tries (Best.Fair k) a e = rw (← e) (refl, refl)
+outcome_told p ss tries (Best.Sure k) a e = rw (← e) (refl, refl)
+
+-- what is written for an answer that is not lost is its word from there on
+pub word_written : (from : ℕ) (a : Answer) (old : List ℕ) → mark_byte a.mark ≢ 0 → written_from from a old ≡ drop from a.word
+unfolding written_from
+word_written from a old n = go a.mark refl n
+  where
+    go : (m : Mark) → a.mark ≡ m → mark_byte m ≢ 0 → written_from from a old ≡ drop from a.word
+    go lost q n = absurd (n refl)
+    go fair q n = rw q refl
+    go sure q n = rw q refl
+
+-- ---- an answer's case
+
+-- an answer is counted by its mark and its tries, whatever word stands beside it
+pub counts : (k : Totals) (a : Result Soft Refusal) (word : List ℕ) (answer : Answer) → soft_of a word ≡ inr answer
+    → counted_answer k (soft_of a []) ≡ capped (counted_of k (mark_byte answer.mark) answer.tries)
+unfolding answer_of found_of lost_answer counted_answer
+counts k (Err r) word answer h = cc
+counts k (Ok (Lost tries)) word answer h = let e : found_of word (Lost tries) ≡ answer = cc in rw (← e) refl
+counts k (Ok (Fair f)) word answer h = let e : found_of word (Fair f) ≡ answer = cc in rw (← e) refl
+counts k (Ok (Sure f)) word answer h = let e : found_of word (Sure f) ≡ answer = cc in rw (← e) refl
