@@ -1,7 +1,8 @@
 // The calls on samples: making a ladder, and quantising.
-use crate::{fields, print};
-use quantiser::{Ladder, Made};
-use refusal::Check;
+use crate::fields::Line;
+use crate::print;
+use quantiser::Ladder;
+use refusal::Refusal;
 use std::io::{self, Write};
 
 // The most edges that a record may have.
@@ -11,60 +12,30 @@ const EDGES: usize = 64;
 const SAMPLES: usize = 1024;
 
 // The ladder whose edges are word 1 of the line.
-fn make(line: &[u8]) -> Made {
-    let mut edges = [0.0f32; EDGES];
-    let count = fields::floats(line, 1, &mut edges);
-    quantiser::make_ladder(&edges[..count])
+fn make(line: Line) -> Result<Ladder, Refusal> {
+    let mut edges = [0.0; EDGES];
+    quantiser::make_ladder(line.floats(1, &mut edges))
 }
 
 // The record `ladder EDGES`.
-pub fn ladder(out: &mut impl Write, line: &[u8]) -> io::Result<()> {
-    match make(line) {
-        Made::Refused(r) => print::refused(out, r),
-        Made::Accepted(_) => print::text(out, b"ladder"),
-    }?;
-    print::end(out)
+pub fn ladder(out: &mut impl Write, line: Line) -> io::Result<()> {
+    print::done(out, "ladder", make(line).map(|_| ()))?;
+    writeln!(out, "")
+}
+
+// Makes the ladder, and quantises by it the samples whose kinds and levels are words 2 and 3 of the line.
+fn quantised(line: Line, symbols: &mut [u8]) -> Result<(), Refusal> {
+    let mut kinds = [0; SAMPLES];
+    let mut levels = [0.0; SAMPLES];
+    let kinds = line.bytes(2, &mut kinds);
+    let levels = line.floats(3, &mut levels);
+    quantiser::quantise(make(line)?, kinds, levels, symbols)
 }
 
 // The record `quantise EDGES KINDS LEVELS ROOM`.
-pub fn quantise(out: &mut impl Write, line: &[u8]) -> io::Result<()> {
-    let mut symbols = [7u8; SAMPLES];
-    let room = fields::room(line, 4, SAMPLES);
-    quantise_to(out, line, &mut symbols[..room])
-}
-
-// Quantises into the buffer, and prints the answer.
-fn quantise_to(out: &mut impl Write, line: &[u8], symbols: &mut [u8]) -> io::Result<()> {
-    answer(out, quantised(line, symbols))?;
+pub fn quantise(out: &mut impl Write, line: Line) -> io::Result<()> {
+    let mut symbols = [7; SAMPLES];
+    let symbols = line.lend(4, &mut symbols);
+    print::done(out, "written", quantised(line, symbols))?;
     print::last(out, symbols)
-}
-
-// Makes the ladder and quantises by it.
-fn quantised(line: &[u8], symbols: &mut [u8]) -> Check {
-    match make(line) {
-        Made::Refused(r) => Check::Refused(r),
-        Made::Accepted(ladder) => quantise_by(line, ladder, symbols),
-    }
-}
-
-// Quantises the samples whose kinds and levels are words 2 and 3 of the line.
-fn quantise_by(line: &[u8], ladder: Ladder, symbols: &mut [u8]) -> Check {
-    let mut kinds = [0u8; SAMPLES];
-    let mut levels = [0.0f32; SAMPLES];
-    let kind_count = fields::bytes(line, 2, &mut kinds);
-    let level_count = fields::floats(line, 3, &mut levels);
-    quantiser::quantise(
-        ladder,
-        &kinds[..kind_count],
-        &levels[..level_count],
-        symbols,
-    )
-}
-
-// Prints the quantiser's answer.
-fn answer(out: &mut impl Write, check: Check) -> io::Result<()> {
-    match check {
-        Check::Refused(r) => print::refused(out, r),
-        Check::Passed => print::text(out, b"written"),
-    }
 }

@@ -1,32 +1,9 @@
-// takelist: lists the words of a take that is read from standard input, and their totals (document 01).
-//
-// All that is printed is the text that `listing::list` writes. One byte more is read than the program accepts, so that longer input is told
-// apart.
+// takelist: lists the words of a take that is read from standard input, and their totals (document 01). All that is printed is the text that
+// `listing::list` writes.
 #![tactic(auto)]
 
-ghost use Rattle.std.specs.Prelude.{◌≤◌, length, IfOk};
-
-use std::io::{self, Read};
-
-// Reads until the buffer is full or the input ends, and answers how many bytes that are.
-fn read_full(input: &mut impl Read, buffer: &mut [u8]) -> io::Result<usize>
-    ensures { IfOk result (λ count. count ≤ length buffer.new) }
-{
-    let mut done = 0;
-    while done < buffer.len() {
-        let count = input.read(&mut buffer[done..])?;
-        if count == 0 {
-            return Ok(done);
-        }
-        done += count;
-    }
-    Ok(done)
-}
+use std::io;
 
 fn main(rt: HostRuntime) -> io::Result<()> {
-    let mut input = [0u8; 65537];
-    let mut text = [0u8; 900000];
-    let got = read_full(&mut rt.reader(), &mut input)?;
-    let length = listing::list(&input[..got], &mut text);
-    rt.write_all(&text[..length])
+    filter::run(&rt, listing::list)
 }

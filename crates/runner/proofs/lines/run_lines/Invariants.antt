@@ -1,9 +1,9 @@
--- A line begins before it ends, and within what the buffer holds; with each turn less is left.
-use Rattle.std.proofs.Common.{◌-◌, ◌≤◌}
+-- A line begins within the text; with each turn less is left.
+use Rattle.std.proofs.Common.{◌-◌, ◌≤◌, length}
 use Rattle.runner.proofs.lines.run_lines.Given as goal
 
-abbrev pub invariant-loop-end : goal.invariant-loop-end
-invariant-loop-end g l = (l.at ≤ l.end) × (l.at ≤ l.have)
+abbrev pub invariant-loop-long : goal.invariant-loop-long
+invariant-loop-long g l = l.at ≤ length l.text
 
-abbrev pub decreases-loop-end : goal.decreases-loop-end
-decreases-loop-end g l = l.have - l.end
+abbrev pub decreases-loop-long : goal.decreases-loop-long
+decreases-loop-long g l = length l.text - l.at

@@ -1,6 +1,6 @@
 -- What was read has room; with each turn less room is left.
 use Rattle.std.proofs.Common.{length, ◌-◌, ◌≤◌}
-use Rattle.runner.proofs.lines.read_full.Given as goal
+use Rattle.filter.proofs.read_full.Given as goal
 
 abbrev pub invariant-loop-done : goal.invariant-loop-done
 invariant-loop-done g l = l.done ≤ length l.buffer
