@@ -82,6 +82,12 @@ whole old now all z p h l =
       sym (take-append-drop now.at now.bytes.now) ∙ ap₂ (λ (a b : List ℕ). a ++ b) text (p.rest ∙ ap (drop (length all)) e),
     )
 
+-- and one that is as long as its buffer is what is there
+pub filled : (old now : Text) (all : List ℕ) → old.at ≡ 0 → Written old all now → length all ≡ length old.bytes.now → now.at ≤ length now.bytes.now
+    → now.bytes.now ≡ all
+filled old now all z p h l =
+    (whole old now all z p (omega (arith, h)) l).1 ∙ ap (λ (t : List ℕ). all ++ t) (drop_all (length all) old.bytes.now (omega (arith, h))) ∙ append-nil all
+
 -- ---- bits
 
 -- the first i are characters
