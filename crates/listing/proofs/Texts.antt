@@ -4,10 +4,10 @@ use native.Mathlib.Decide.{dec_lt}
 use native.Mathlib.Numerals.{add-one}
 use mathlib.Core.List.{append_assoc, append-nil}
 use lib.ListN.{length-take, length-drop, length-append, take-append-drop, get_or, set}
-use lib.Seq.{drop-drop, take_all}
+use lib.Seq.{drop-drop, take_all, take-suc-set}
 use borrow.Rule.Slice.PartMut.{put_mid}
 use Rattle.std.proofs.lemmas.Slice.{take-put_mid, drop-put_mid}
-use Rattle.std.proofs.lemmas.List.{take_min, drop_all}
+use Rattle.std.proofs.lemmas.List.{take_min, drop_all, drop-set-lt}
 use Rattle.bch.specs.Words.{Bits}
 use Rattle.bch.proofs.codes.Entries.{below_at}
 use Rattle.listing.specs.Text.{bits_text}
@@ -30,6 +30,15 @@ copied bs new part at k h e p =
     ] in (
       take-put_mid at (at + k - at) bs part (at + k) (omega (arith, long)) h ∙ ap (λ (t : List ℕ). take at bs ++ t) same,
       drop-put_mid at (at + k - at) bs part (at + k) (omega arith) h (omega (arith, long)) ∙ rest ∙ sym (drop-drop (length new) at bs),
+    )
+
+-- and so is a character
+pub stored : (bs : List ℕ) (at c : ℕ) → at < length bs
+    → (take (at + 1) (set bs at c) ≡ take at bs ++ take (length (drop at bs)) (c ∷ [])) × (drop (at + 1) (set bs at c) ≡ drop 1 (drop at bs))
+stored bs at c h =
+    let one : c ∷ [] ≡ take (length (drop at bs)) (c ∷ []) = sym (take_all (length (drop at bs)) (c ∷ []) (omega (arith, h, length-drop at bs))) in (
+      ap (λ (k : ℕ). take k (set bs at c)) (add-one at) ∙ take-suc-set bs at c h ∙ ap (λ (t : List ℕ). take at bs ++ t) one,
+      drop-set-lt (at + 1) bs at c (omega arith) ∙ sym (drop-drop 1 at bs),
     )
 
 -- ---- pieces

@@ -45,7 +45,10 @@ impl<'a> Text<'a> {
     pub fn character(&mut self, c: u8)
         ensures { Written self.old (c ∷ []) self.new }
     {
-        self.characters(&[c]);
+        if self.at < self.bytes.len() {
+            self.bytes[self.at] = c;
+            self.at += 1;
+        }
     }
 
     // A number in base ten, with a hyphen before a negative one, and the character behind it.
