@@ -1,6 +1,6 @@
 pub mod Texts
 pub mod Decimals
-pub mod Signs
 pub mod Rows
+pub mod Words
+pub mod Outputs
 pub mod Cases
-pub mod Listings

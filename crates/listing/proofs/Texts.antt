@@ -1,84 +1,135 @@
--- Laws of text that is written into a buffer piece by piece: one character, one more of a row, and one text behind another.
--- Assumes nothing.
-use Prim.Native.Nat.{ℕ, ◌+◌, ◌≤◌, ◌<◌}
-use native.Mathlib.Omega.{arith}
+-- Laws of a text on a buffer: a piece is copied as far as there is room, and one piece behind another. Assumes nothing.
+use Rattle.std.proofs.Common.{ℕ, zero, suc, ◌+◌, ◌-◌, ◌%◌, ◌≤◌, ◌<◌, ◌≡◌, List, [], ◌∷◌, ◌++◌, length, take, drop, min, refl, sym, ap, ap₂, subst, ◌∙◌, arith}
+use native.Mathlib.Decide.{dec_lt}
 use native.Mathlib.Numerals.{add-one}
-use mathlib.Core.Path.{◌≡◌, refl, ap, ap₂, sym, subst, ◌∙◌}
-use mathlib.Core.List.{List, [], ◌∷◌, ◌++◌, append_assoc, append-nil}
-use lib.ListN.{replicate, length-take, length, take, drop, get_or, set, length-append, length-drop, length-map, take-append-drop, get_or-map}
-use lib.Seq.{paste, paste-suc, take-length, set_split, append_snoc, take_at, drop_at, drop-drop, length-take-le}
+use mathlib.Core.List.{append_assoc, append-nil}
+use lib.ListN.{length-take, length-drop, length-append, take-append-drop, get_or, set}
+use lib.Seq.{drop-drop, take_all, take-suc-set}
+use borrow.Rule.Slice.PartMut.{put_mid}
+use Rattle.std.proofs.lemmas.Slice.{take-put_mid, drop-put_mid}
+use Rattle.std.proofs.lemmas.List.{take_min, drop_all, drop-set-lt}
+use Rattle.bch.specs.Words.{Bits}
+use Rattle.bch.proofs.codes.Entries.{below_at}
 use Rattle.listing.specs.Text.{bits_text}
-use Rattle.listing.specs.Buffer.{Put}
+use Rattle.listing.specs.Takelist.{over}
+use Rattle.listing.specs.declared.text.Text.{Text}
+use Rattle.listing.specs.Written.{written, left, Written}
+
+-- what has room is copied
+pub copied : (bs new part : List ℕ) (at k : ℕ) → at ≤ length bs → k ≡ min (length bs - at) (length new) → part ≡ take k new
+    → (take (at + k) (put_mid at (at + k - at) bs part) ≡ take at bs ++ take (length (drop at bs)) new)
+    × (drop (at + k) (put_mid at (at + k - at) bs part) ≡ drop (length new) (drop at bs))
+copied bs new part at k h e p =
+    let long : length part ≡ k = ap length p ∙ omega (arith, e, length-take k new) in
+    let room : length (drop at bs) ≡ length bs - at = length-drop at bs in
+    let same : part ≡ take (length (drop at bs)) new =
+    p ∙ ap (λ (n : ℕ). take n new) e ∙ take_min (length bs - at) new ∙ ap (λ (n : ℕ). take n new) (sym room) in
+    let rest : drop (at + k) bs ≡ drop (at + length new) bs = elim (dec_lt k (length new)) [
+      | yes l ↦ drop_all (at + k) bs (omega (arith, e, l, h)) ∙ sym (drop_all (at + length new) bs (omega (arith, e, l, h)))
+      | no l ↦ let z : at + k ≡ at + length new = omega (arith, e, l) in ap (λ (n : ℕ). drop n bs) z
+    ] in (
+      take-put_mid at (at + k - at) bs part (at + k) (omega (arith, long)) h ∙ ap (λ (t : List ℕ). take at bs ++ t) same,
+      drop-put_mid at (at + k - at) bs part (at + k) (omega arith) h (omega (arith, long)) ∙ rest ∙ sym (drop-drop (length new) at bs),
+    )
+
+-- and so is a character
+pub stored : (bs : List ℕ) (at c : ℕ) → at < length bs
+    → (take (at + 1) (set bs at c) ≡ take at bs ++ take (length (drop at bs)) (c ∷ [])) × (drop (at + 1) (set bs at c) ≡ drop 1 (drop at bs))
+stored bs at c h =
+    let one : c ∷ [] ≡ take (length (drop at bs)) (c ∷ []) = sym (take_all (length (drop at bs)) (c ∷ []) (omega (arith, h, length-drop at bs))) in (
+      ap (λ (k : ℕ). take k (set bs at c)) (add-one at) ∙ take-suc-set bs at c h ∙ ap (λ (t : List ℕ). take at bs ++ t) one,
+      drop-set-lt (at + 1) bs at c (omega arith) ∙ sym (drop-drop 1 at bs),
+    )
 
 -- ---- pieces
 
--- the same text by another name
-pub same_text : {old now a b : List ℕ} {at end : ℕ} → a ≡ b → Put old at a now end → Put old at b now end
-same_text {old} {now} {a} {b} {at} {end} e p = subst (λ (t : List ℕ). Put old at t now end) e p
+-- the same piece by another name
+pub said : {a b : List ℕ} {old now : Text} → Written old a now → a ≡ b → Written old b now
+said {a} {b} {old} {now} p e = subst (λ (t : List ℕ). Written old t now) e p
 
 -- none
-pub put_none : {old : List ℕ} {at end : ℕ} → at ≤ length old → end ≡ at → Put old at [] old end
-put_none {old} {at} {end} h e =
-    let z : at + 0 ≡ at = omega arith in
-    record { room = omega arith; ends = e ∙ sym z; holds = rw (z, append-nil) (sym (take-append-drop at old)) }
+pub nothing : (t : Text) → Written t [] t
+nothing t = record { same = refl; text = sym (rw (take-nil (length (left t))) (append-nil (written t))); rest = refl }
+  where
+    take-nil : (n : ℕ) → ◌≡◌ {A = List ℕ} (take n []) []
+    take-nil zero = refl
+    take-nil (suc n) = refl
 
--- one character
-pub put_one : (old : List ℕ) (at c : ℕ) → at + 1 ≤ length old → Put old at (c ∷ []) (set old at c) (at + 1)
-put_one old at c h = record {
-  room = h;
-  ends = refl;
-  holds = set_split old at c (omega arith) ∙ sym (append_snoc (take at old) c _) ∙ rw add-one refl;
-}
+less : (n m : ℕ) → suc n - suc m ≡ n - m
+less n m = omega arith
 
--- one character more of a row
-pub put_more : (old : List ℕ) (at : ℕ) (new now : List ℕ) (i c z : ℕ) → at + length new ≤ length old → i < length new → c ≡ get_or new i z
-    → now ≡ paste old at new i → set now (at + i) c ≡ paste old at new (i + 1)
-put_more old at new now i c z h l e p = rw (p, e, add-one) (paste-suc old at new i z (omega arith) l)
+-- the front of two pieces
+take_both : (n : ℕ) (a b : List ℕ) → take n a ++ take (n - length a) b ≡ take n (a ++ b)
+take_both zero [] b = refl
+take_both zero (x ∷ a) b = let z : 0 - length (x ∷ a) ≡ 0 = omega arith in ap (λ (k : ℕ). take k b) z
+take_both (suc n) [] b = let z : suc n - length {A = ℕ} [] ≡ suc n = omega arith in ap (λ (k : ℕ). take k b) z
+take_both (suc n) (x ∷ a) b = ap (λ (t : List ℕ). x ∷ t) (ap (λ (k : ℕ). take n a ++ take k b) (less n (length a)) ∙ take_both n a b)
 
--- all of it
-pub put_all : (old : List ℕ) (at : ℕ) (new now : List ℕ) (i : ℕ) → at + length new ≤ length old → i ≡ length new → now ≡ paste old at new i
-    → Put old at new now (at + i)
-put_all old at new now i h e p = record { room = h; ends = ap (λ (k : ℕ). at + k) e; holds = p ∙ rw (e, take-length) refl }
-
--- one text behind another
-pub then : {old mid now a b : List ℕ} {at next end : ℕ} → Put old at a mid next → Put mid next b now end → Put old at (a ++ b) now end
-then {old} {mid} {now} {a} {b} {at} {next} {end} p q =
-    let front : length (take at old ++ a) ≡ next = omega (arith, length-append (take at old) a, length-take-le at old (omega (arith, p.room)), p.ends) in
-    let rest = drop (at + length a) old in
-    let long : length mid ≡ length old = omega (
-      arith,
-      ap length p.holds,
-      length-append (take at old ++ a) rest,
-      length-drop (at + length a) old,
-      p.room,
-      p.ends,
-    ) in
-    let n : at + length a + length b ≡ at + length (a ++ b) = omega (arith, length-append a b) in
-    let before : take next mid ≡ take at old ++ a = ap (take next) p.holds ∙ take_at (take at old ++ a) rest next front in
-    let behind : drop (next + length b) mid ≡ drop (at + length (a ++ b)) old =
-    sym (drop-drop (length b) next mid)
-    ∙ ap (λ (l : List ℕ). drop (length b) l) (ap (drop next) p.holds ∙ drop_at (take at old ++ a) rest next front)
-    ∙ drop-drop (length b) (at + length a) old ∙ ap (λ (k : ℕ). drop k old) n in
+-- one behind another
+pub then : {a b : List ℕ} {old mid now : Text} → Written old a mid → Written mid b now → Written old (a ++ b) now
+then {a} {b} {old} {mid} {now} p q =
+    let n = length (left old) in
+    let room : length (left mid) ≡ n - length a = ap length p.rest ∙ length-drop (length a) (left old) in
     record {
-      room = omega (arith, p.room, q.room, p.ends);
-      ends = omega (arith, p.ends, q.ends);
-      holds =
-          q.holds ∙ ap₂ (λ (l r : List ℕ). l ++ b ++ r) before behind
-          ∙ ap (λ (l : List ℕ). l ++ drop (at + length (a ++ b)) old) (append_assoc (take at old) a b);
+      same = q.same ∙ p.same;
+      text =
+          q.text ∙ ap₂ (λ (t : List ℕ) (k : ℕ). t ++ take k b) p.text room
+          ∙ append_assoc (written old) (take n a) (take (n - length a) b) ∙ ap (λ (t : List ℕ). written old ++ t) (take_both n a b);
+      rest =
+          q.rest ∙ ap (λ (t : List ℕ). drop (length b) t) p.rest ∙ drop-drop (length b) (length a) (left old)
+          ∙ ap (λ (k : ℕ). drop k (left old)) (sym (length-append a b));
     }
+
+-- a text that has room stands at its buffer's front, and the rest is as it was
+pub whole : (old now : Text) (all : List ℕ) → old.at ≡ 0 → Written old all now → length all ≤ length old.bytes.now → now.at ≤ length now.bytes.now
+    → (now.at ≡ length all) × (now.bytes.now ≡ over all old.bytes.now)
+whole old now all z p h l =
+    let e : left old ≡ old.bytes.now = ap (λ (k : ℕ). drop k old.bytes.now) z in
+    let none : written old ≡ [] = ap (λ (k : ℕ). take k old.bytes.now) z in
+    let text : written now ≡ all = p.text ∙ ap₂ (λ (t r : List ℕ). t ++ take (length r) all) none e ∙ take_all (length old.bytes.now) all h in (
+      omega (arith, length-take now.at now.bytes.now, ap length text),
+      sym (take-append-drop now.at now.bytes.now) ∙ ap₂ (λ (a b : List ℕ). a ++ b) text (p.rest ∙ ap (drop (length all)) e),
+    )
+
+-- and one that is as long as its buffer is what is there
+pub filled : (old now : Text) (all : List ℕ) → old.at ≡ 0 → Written old all now → length all ≡ length old.bytes.now → now.at ≤ length now.bytes.now
+    → now.bytes.now ≡ all
+filled old now all z p h l =
+    (whole old now all z p (omega (arith, h)) l).1 ∙ ap (λ (t : List ℕ). all ++ t) (drop_all (length all) old.bytes.now (omega (arith, h))) ∙ append-nil all
 
 -- ---- bits
 
--- of a codeword buffer of 1,023 bytes the first n are lent
-pub lent_long : (n : ℕ) → n ≤ 1023 → length {A = ℕ} (take n (replicate 1023 0)) ≡ n
-lent_long n h = omega (arith, length-take {A = ℕ} n (replicate 1023 0))
+-- the first i are characters
+abbrev pub shown_to : ℕ → List ℕ → List ℕ
+shown_to i bits = bits_text (take i bits) ++ drop i bits
 
--- as many characters as bits, ..
-pub bits_long : (bs : List ℕ) → length (bits_text bs) ≡ length bs
+-- none ..
+pub shown_none : (bits : List ℕ) → bits ≡ shown_to 0 bits
 unfolding bits_text
-bits_long bs = length-map bs _
+shown_none bits = refl
 
--- .. each by its own bit
-pub bits_at : (bs : List ℕ) (i : ℕ) → 48 + get_or bs i 0 ≡ get_or (bits_text bs) i 48
+-- .. one more ..
+at_next : (bits : List ℕ) (i : ℕ) → i < length bits → get_or (shown_to i bits) i 0 ≡ get_or bits i 0
 unfolding bits_text
-bits_at bs i = sym (get_or-map (λ (b : ℕ). 48 + b) bs i 0)
+at_next [] i h = absurd (omega (arith, h))
+at_next (b ∷ bits) zero h = refl
+at_next (b ∷ bits) (suc i) h = at_next bits i (omega (arith, h))
+
+shown_more : (bits : List ℕ) (i : ℕ) → i < length bits → set (shown_to i bits) i (48 + get_or bits i 0) ≡ shown_to (suc i) bits
+unfolding bits_text
+shown_more [] i h = absurd (omega (arith, h))
+shown_more (b ∷ bits) zero h = refl
+shown_more (b ∷ bits) (suc i) h = ap (λ (t : List ℕ). (48 + b) ∷ t) (shown_more bits i (omega (arith, h)))
+
+-- as the code has it ..
+pub bits_more : (bits now : List ℕ) (i : ℕ) → Bits bits → i < length bits → now ≡ shown_to i bits
+    → set now i ((get_or now i 0 + 48) % 256) ≡ shown_to (i + 1) bits
+bits_more bits now i b h e =
+    let v : get_or now i 0 ≡ get_or bits i 0 = ap (λ (t : List ℕ). get_or t i 0) e ∙ at_next bits i h in
+    let z : (get_or now i 0 + 48) % 256 ≡ 48 + get_or bits i 0 = omega (arith, v, below_at 1 bits i b) in
+    ap₂ (λ (t : List ℕ) (c : ℕ). set t i c) e z ∙ shown_more bits i h ∙ ap (λ (k : ℕ). shown_to k bits) (sym (add-one i))
+
+-- .. all
+pub shown_all : (bits : List ℕ) (i : ℕ) → length bits ≤ i → shown_to i bits ≡ bits_text bits
+unfolding bits_text
+shown_all bits i h = ap₂ (λ (a b : List ℕ). bits_text a ++ b) (take_all i bits h) (drop_all i bits h) ∙ append-nil (bits_text bits)

@@ -1,4 +1,5 @@
 pub mod Text
-pub mod Buffer
 pub mod Takelist
-pub mod Progress
+pub mod Written
+pub mod Shown
+pub mod Rows

@@ -2,17 +2,22 @@
 //
 //     let length = listing::list(&input, &mut text);  // text[..length] is the output
 //
-// The rest is in the private modules `put` (fields), `lines` and `output` (the lines of a take).
+// It is written from what another crate can use too, each for any input:
+//
+//     let mut text = listing::Text::new(&mut buffer);  // text that is put on a buffer, as far as there is room
+//     let take = listing::Take::open(&bytes)?;         // a take that is opened
+//     let totals = take.write::<MyRow>(&mut text);     // its words, each as the type's `Row` has it
 #![tactic(auto)]
 
 ghost use Rattle.std.specs.Prelude.{◌≤◌, ◌≡◌, length};
 ghost use Rattle.listing.specs.Takelist.{takelist, over};
 
-use takes::Opening;
-
 mod lines;
-mod output;
-mod put;
+mod take;
+mod text;
+
+pub use take::{Mark, Row, Shown, Take};
+pub use text::Text;
 
 // Writes the program's whole output for its input, and answers its length. The buffer has room for every output.
 pub fn list(input: &[u8], text: &mut [u8; 900000]) -> usize
@@ -20,11 +25,7 @@ pub fn list(input: &[u8], text: &mut [u8; 900000]) -> usize
     ensures text { text.new ≡ over (takelist input.now) text.old }
     ensures upper_bound { result ≤ length text.new }
 {
-    if 65536 < input.len() {
-        return put::characters(text, 0, b"too long\n");
-    }
-    match takes::open_take(input) {
-        Opening::Refused(r) => lines::refused(text, r),
-        Opening::Opened(h) => output::list_take(input, h, text),
-    }
+    let mut out = Text::new(text);
+    lines::output(input, &mut out);
+    out.len()
 }

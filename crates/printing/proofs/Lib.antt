@@ -2,7 +2,6 @@ pub mod Cases
 pub mod Fields
 pub mod Widths
 pub mod PageLaws
-pub mod Answered
 pub mod Layings
 pub mod Refusing
 pub mod Outputs

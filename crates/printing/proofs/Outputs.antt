@@ -15,7 +15,6 @@ use Rattle.take_format.proofs.takes.Reading.{Reading, is_code, whole}
 use Rattle.listing.specs.Takelist.{takelist, over}
 use Rattle.printing.specs.Layout.{strip_length}
 use Rattle.printing.specs.Calls.{take_strip, open_strip, strip_output}
-use Rattle.printing.specs.Progress.{Printable}
 
 module _ (bs : List ℕ) where
   pub long_output : 65536 < length bs → strip_output bs ≡ takelist bs
@@ -41,11 +40,7 @@ module _ (bs : List ℕ) (h : Header) (ok : Reading bs h) (short : length bs ≤
       let all : h.words * 6 ≤ h.words * word_length h.code = mul-le-mul_left h.words (word_long h.code (is_code bs h ok)).0 in
       omega (arith, all, whole bs h ok)
 
-  -- .. so that a take of up to 65,536 bytes has few words, ..
-  pub short_printable : Printable bs h
-  short_printable = record { reading = ok; few = omega (arith, six) }
-
-  -- .. and its strip has room
+  -- .. so that the strip of a take of up to 65,536 bytes has room
   pub strip_room : strip_length h.words ≤ 900000
   unfolding strip_length
   strip_room = omega (arith, six)

@@ -1,6 +1,6 @@
 -- Laws of pages: one word more, and how long they are. Assumes nothing.
 -- (`Cases` is named so that its cases are checked before these laws, which follow the definitions' text.)
-use Prim.Native.Nat.{ℕ, zero, suc, ◌+◌, ◌%◌, ◌<◌}
+use Prim.Native.Nat.{ℕ, zero, suc, ◌+◌, ◌*◌, ◌/◌, ◌%◌, ◌<◌}
 use native.Mathlib.Omega.{arith}
 use native.Mathlib.Decide.{dec_lt}
 use mathlib.Core.Path.{◌≡◌, refl, ap, ap₂, sym, ◌∙◌}
@@ -11,8 +11,11 @@ use lib.ListN.{length, length-append}
 use Rattle.take_format.specs.Batch.{each, joined}
 use Rattle.take_format.proofs.takes.Batches.{each_more, joined_behind}
 use Rattle.listing.specs.Text.{ascii, line}
-use Rattle.printing.specs.Fixed.{pages_length}
 use Rattle.printing.specs.Layout.{heading, heading_at, pages, strip_text, strip_length}
+
+-- the pages of w words have so many characters
+abbrev pub pages_length : ℕ → ℕ
+pages_length w = 25 * (w + (w + 39) / 40)
 
 pub heading_long : length heading ≡ 25
 unfolding heading ascii line

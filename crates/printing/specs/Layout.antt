@@ -1,6 +1,6 @@
 -- The strip of a take (document 02, §3): pages of lines of 24 characters, each with a line feed behind it. A character is its ASCII code.
 -- Assumes nothing.
-use Rattle.std.specs.Prelude.{ℕ, ◌+◌, ◌-◌, ◌*◌, ◌/◌, ◌%◌, max, cond, List, [], ◌∷◌, ◌++◌, eqb, ℤ, length, replicate}
+use Rattle.std.specs.Prelude.{ℕ, ◌+◌, ◌-◌, ◌*◌, ◌/◌, ◌%◌, ◌≤◌, ◌≡◌, max, cond, List, [], ◌∷◌, ◌++◌, eqb, ℤ, length, replicate}
 use Rattle.chase.specs.Soft.{Answer}
 use Rattle.take_format.specs.Batch.{each, joined}
 use Rattle.listing.specs.Text.{ascii, decimal, signed, mark_name, line}
@@ -27,6 +27,14 @@ strip_line i mark distance margin tries =
 unfoldable pub answer_row : ℕ → Answer → List ℕ
 unfolding strip_line mark_name
 answer_row i a = strip_line i (mark_name a.mark) a.distance a.margin a.tries
+
+-- what has room in a line
+pub record Narrow (i : ℕ) (m : List ℕ) (l : ℕ) (d : ℤ) (t : ℕ) : Type 0 where
+  pub index : length (decimal i) ≤ 5
+  pub mark : length m ≡ 4
+  pub distance : length (decimal l) ≤ 4
+  pub margin : length (signed d) ≤ 5
+  pub tries : length (decimal t) ≤ 2
 
 -- the heading of a page
 unfoldable pub heading : List ℕ

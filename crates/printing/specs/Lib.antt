@@ -1,5 +1,3 @@
 pub mod Layout
 pub mod Calls
 pub mod Answer
-pub mod Fixed
-pub mod Progress

@@ -9,7 +9,7 @@
 //         receiver::Words::Refused(r) => { .. }          // the buffer is as it was
 //     }
 //
-// What has a `requires` is in the private modules `put` (fields and the line of a word) and `pages` (the lines of a take).
+// What has a `requires` is in the private module `pages` (the lines of a take).
 #![tactic(auto)]
 
 ghost use Rattle.std.specs.Prelude.{◌≤◌, ◌≡◌, length};
@@ -18,12 +18,12 @@ ghost use Rattle.listing.specs.Takelist.{over};
 ghost use Rattle.printing.specs.Answer.{length_of};
 ghost use Rattle.printing.specs.Calls.{length_answer, strip_answer, strip_buffer, strip_output};
 
+use listing::{Take, Text};
 use receiver::Words;
 use refusal::Refusal;
 use takes::Opening;
 
 mod pages;
-mod put;
 
 // The answer to how long a strip is: a refusal, or its bytes.
 #[derive(Clone, Copy)]
@@ -37,9 +37,9 @@ pub enum Length {
 pub fn strip_length(take: &[u8]) -> Length
     ensures { length_of result ≡ length_answer take.now }
 {
-    match takes::open_take(take) {
-        Opening::Refused(r) => Length::Refused(r),
-        Opening::Opened(h) => Length::Bytes(pages::length_of(pages::count(h))),
+    match Take::open(take) {
+        Err(r) => Length::Refused(r),
+        Ok(take) => Length::Bytes(pages::length_of(take.header.words)),
     }
 }
 
@@ -51,15 +51,15 @@ pub fn print_take(take: &[u8], strip: &mut [u8]) -> Words
     match takes::read_header(take) {
         Opening::Refused(r) => Words::Refused(r),
         Opening::Opened(h) => {
-            if strip.len() != pages::length_of(pages::count(h)) {
+            if strip.len() != pages::length_of(h.words) {
                 return Words::Refused(Refusal {
                     number: refusal::REFUSED_OUTPUT_LENGTH,
                     place: 0,
                 });
             }
-            match takes::open_take(take) {
-                Opening::Refused(r) => Words::Refused(r),
-                Opening::Opened(_) => Words::Decoded(pages::lay_take(take, h, strip)),
+            match Take::open(take) {
+                Err(r) => Words::Refused(r),
+                Ok(take) => Words::Decoded(pages::lay_whole(take, strip)),
             }
         }
     }
@@ -75,8 +75,12 @@ pub fn print(input: &[u8], text: &mut [u8; 900000]) -> usize
     if 65536 < input.len() {
         return listing::list(input, text);
     }
-    match takes::open_take(input) {
-        Opening::Refused(_) => listing::list(input, text),
-        Opening::Opened(h) => pages::lay_front(input, h, text),
+    match Take::open(input) {
+        Err(_) => listing::list(input, text),
+        Ok(take) => {
+            let mut out = Text::new(text);
+            pages::lay(take, &mut out);
+            out.len()
+        }
     }
 }

@@ -1,11 +1,12 @@
--- `refused ` and two numbers. Assumes nothing.
+-- The fields one behind the other. Assumes nothing.
+use Rattle.std.proofs.Common.{arith}
+use Rattle.refusal.specs.Checked.{refusal_of}
 use Rattle.listing.specs.Text.{ascii}
-use Rattle.listing.proofs.Texts.{same_text, then}
+use Rattle.listing.proofs.Texts.{then, said}
 use Rattle.listing.proofs.Rows.{refusal_text}
 use Rattle.listing.proofs.lines.refused.Goals as goal
 
 pub returns : goal.returns
 unfolding ascii
 returns c =
-    same_text (refusal_text _) (then c.characters-a.ensures
-    (then c.number_and-b.ensures.put c.number_and.ensures.put))
+    said (then (then c.characters.ensures c.number.ensures) c.number-2.ensures) (refusal_text (refusal_of c.args.r) (omega arith) (omega arith))

@@ -1,16 +1,14 @@
 -- By whether the word is the first of a page. Assumes nothing.
-use mathlib.Core.Path.{refl, ap, sym}
-use native.Mathlib.Omega.{arith}
-use lib.ListN.{length}
-use Rattle.listing.proofs.Texts.{same_text, put_none}
-use Rattle.printing.proofs.PageLaws.{heading_at_lem, heading_none, heading_long}
+use mathlib.Core.Path.{sym}
+use Rattle.listing.specs.Text.{ascii, line}
+use Rattle.listing.proofs.Texts.{said, nothing}
+use Rattle.printing.specs.Layout.{heading}
+use Rattle.printing.proofs.PageLaws.{heading_at_lem, heading_none}
 use Rattle.printing.proofs.pages.page.Goals as goal
 
-pub heading-requires : goal.heading-requires
-heading-requires c = omega (arith, c.requires, ap length (heading_at_lem c.args.w c.if-w-eq0.true), heading_long)
-
 pub returns-then-w-eq0 : goal.returns-then-w-eq0
-returns-then-w-eq0 c = same_text (sym (heading_at_lem _ c.if-w-eq0.true)) c.heading.ensures
+unfolding heading ascii line
+returns-then-w-eq0 c = said c.characters.ensures (sym (heading_at_lem c.args.w c.if-w-eq0.true))
 
-pub returns : goal.returns
-returns c = same_text (sym (heading_none _ c.if-w-eq0.false)) (put_none (omega (arith, c.requires)) refl)
+pub returns-else-w-eq0 : goal.returns-else-w-eq0
+returns-else-w-eq0 c = said (nothing _) (sym (heading_none c.args.w c.if-w-eq0.false))

@@ -1,0 +1,62 @@
+// A text that is put on a buffer, piece by piece. What has no room is left out, so that nothing is required of the buffer.
+ghost use Rattle.std.specs.Prelude.{◌≡◌, ◌≤◌, [], ◌∷◌, ◌++◌, length};
+
+use itoa::{Buffer, Integer};
+
+// The buffer, and where the text on it ends.
+#[derive(Drop)]
+pub struct Text<'a> {
+    bytes: &'a mut [u8],
+    at: usize,
+    ghost inside: { at ≤ length bytes.now },
+}
+
+impl<'a> Text<'a> {
+    ghost use Rattle.listing.specs.Written.{Written};
+
+    // None, on a buffer that is lent for it.
+    pub fn new(bytes: &'a mut [u8]) -> Text<'a>
+        ensures same { result.bytes.ghost_name ≡ bytes.entry.ghost_name }
+        ensures bytes { result.bytes.now ≡ bytes.old }
+        ensures at { result.at ≡ 0 }
+    {
+        Text { bytes, at: 0 }
+    }
+
+    // How long it is.
+    pub fn len(&self) -> usize
+        ensures value { result ≡ self.now.at }
+        ensures upper_bound { result ≤ length self.now.bytes.now }
+    {
+        self.at
+    }
+
+    // Characters as they stand.
+    pub fn characters(&mut self, new: &[u8])
+        ensures { Written self.old new.now self.new }
+    {
+        let count = (self.bytes.len() - self.at).min(new.len());
+        let end = self.at + count;
+        self.bytes[self.at..end].copy_from_slice(&new[..count]);
+        self.at = end;
+    }
+
+    // One character.
+    pub fn character(&mut self, c: u8)
+        ensures { Written self.old (c ∷ []) self.new }
+    {
+        if self.at < self.bytes.len() {
+            self.bytes[self.at] = c;
+            self.at += 1;
+        }
+    }
+
+    // A number in base ten, with a hyphen before a negative one, and the character behind it.
+    pub(crate) fn number<I: Integer>(&mut self, x: I, behind: u8)
+        ensures { Written self.old (I.text x ++ (behind ∷ [])) self.new }
+    {
+        let mut digits = Buffer::new();
+        self.characters(digits.format(x).as_bytes());
+        self.character(behind);
+    }
+}
