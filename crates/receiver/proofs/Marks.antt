@@ -5,6 +5,7 @@ use mathlib.Core.Path.{◌≡◌, refl, ap}
 use mathlib.Core.Logic.{◌⊎◌, ◌≢◌, inl, inr}
 use mathlib.Core.List.{List, []}
 use denote.Enum.Bare.{sameb}
+use denote.Enum.Declared.{tag_of}
 use lib.Dec.{eqb}
 use lib.ListN.{drop}
 use Rattle.std.specs.Prelude.{Result, Ok, Err}
@@ -36,6 +37,12 @@ same_mark Mark.Fair Mark.Sure = refl
 same_mark Mark.Sure Mark.Lost = refl
 same_mark Mark.Sure Mark.Fair = refl
 same_mark Mark.Sure Mark.Sure = refl
+
+-- a mark's number is its byte
+pub number_told : (m : declared.Mark) → tag_of the_type m ≡ byte_of m
+number_told Mark.Lost = refl
+number_told Mark.Fair = refl
+number_told Mark.Sure = refl
 
 -- ---- an outcome
 
