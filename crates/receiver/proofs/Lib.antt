@@ -1,4 +1,5 @@
 pub mod HighBits
+pub mod Locating
 pub mod Margins
 pub mod Placed
 pub mod Places
