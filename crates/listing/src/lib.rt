@@ -16,7 +16,7 @@ mod lines;
 mod take;
 mod text;
 
-pub use take::{Mark, Row, Shown, Take};
+pub use take::{Row, Shown, Take, name_of};
 pub use text::Text;
 
 // Writes the program's whole output for its input, and answers its length. The buffer has room for every output.

@@ -7,8 +7,8 @@ ghost use Rattle.listing.specs.Text.{bits_text, word_line, totals_line, refusal_
 ghost use Rattle.listing.specs.Takelist.{takelist};
 ghost use Rattle.listing.specs.Written.{Written};
 
-use crate::{Mark, Row, Shown, Take, Text};
-use receiver::Totals;
+use crate::{Row, Shown, Take, Text, name_of};
+use receiver::{Mark, Totals};
 use refusal::Refusal;
 
 // Bits as characters, in their place.
@@ -28,7 +28,7 @@ impl Row for Line {
 
     fn put(text: &mut Text<'_>, index: usize, shown: Shown, message: &mut [u8]) {
         text.number(index, b' ');
-        text.characters(shown.mark.name());
+        text.characters(name_of(shown.mark));
         text.character(b' ');
         text.number(shown.distance, b' ');
         text.number(shown.margin, b' ');
@@ -49,7 +49,7 @@ fn refused(text: &mut Text<'_>, r: Refusal)
     ensures { Written text.old (refusal_line (refusal_of r)) text.new }
 {
     text.characters(b"refused ");
-    text.number(r.number, b' ');
+    text.number(r.cause.number(), b' ');
     text.number(r.place, b'\n');
 }
 

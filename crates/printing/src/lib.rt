@@ -1,12 +1,9 @@
 // The strip of a take (document 02, §3): pages of lines of 24 characters, on a buffer that the caller lends.
 //
-//     match printing::strip_length(&take) {
-//         printing::Length::Bytes(length) => { .. }      // lend so many bytes
-//         printing::Length::Refused(r) => { .. }         // r.number, r.place
-//     }
+//     let length = printing::strip_length(&take)?;    // lend so many bytes
 //     match printing::print_take(&take, &mut strip) {
-//         receiver::Words::Decoded(totals) => { .. }     // the strip is in the buffer
-//         receiver::Words::Refused(r) => { .. }          // the buffer is as it was
+//         Ok(totals) => { .. }                           // the strip is in the buffer
+//         Err(r) => { .. }                               // r.cause, r.place: the buffer is as it was
 //     }
 //
 // What has a `requires` is in the private module `pages` (the lines of a take).
@@ -19,50 +16,31 @@ ghost use Rattle.printing.specs.Answer.{length_of};
 ghost use Rattle.printing.specs.Calls.{length_answer, strip_answer, strip_buffer, strip_output};
 
 use listing::{Take, Text};
-use receiver::Words;
-use refusal::Refusal;
-use takes::Opening;
+use receiver::Totals;
+use refusal::{Cause, Refusal};
 
 mod pages;
 
-// The answer to how long a strip is: a refusal, or its bytes.
-#[derive(Clone, Copy)]
-pub enum Length {
-    Refused(Refusal),
-    Bytes(usize),
-}
-
 // How long the strip of a take is: 25 bytes for each of its words and for each page's heading. Any bytes may be handed in: what can't be opened
 // is refused.
-pub fn strip_length(take: &[u8]) -> Length
+pub fn strip_length(take: &[u8]) -> Result<usize, Refusal>
     ensures { length_of result ≡ length_answer take.now }
 {
-    match Take::open(take) {
-        Err(r) => Length::Refused(r),
-        Ok(take) => Length::Bytes(pages::length_of(take.header.words)),
-    }
+    let take = Take::open(take)?;
+    Ok(pages::length_of(take.header.words))
 }
 
 // Reads a take, writes its strip and answers the totals. The strip is lent for exactly its length; any bytes and buffer may be handed in.
-pub fn print_take(take: &[u8], strip: &mut [u8]) -> Words
+pub fn print_take(take: &[u8], strip: &mut [u8]) -> Result<Totals, Refusal>
     ensures answer { words_of result ≡ strip_answer take.now strip.old }
     ensures strip { strip.new ≡ strip_buffer take.now strip.old }
 {
-    match takes::read_header(take) {
-        Opening::Refused(r) => Words::Refused(r),
-        Opening::Opened(h) => {
-            if strip.len() != pages::length_of(h.words) {
-                return Words::Refused(Refusal {
-                    number: refusal::REFUSED_OUTPUT_LENGTH,
-                    place: 0,
-                });
-            }
-            match Take::open(take) {
-                Err(r) => Words::Refused(r),
-                Ok(take) => Words::Decoded(pages::lay_whole(take, strip)),
-            }
-        }
+    let header = takes::read_header(take)?;
+    if strip.len() != pages::length_of(header.words) {
+        return Err(Cause::OutputLength.into());
     }
+    let take = Take::open(take)?;
+    Ok(pages::lay_whole(take, strip))
 }
 
 // Writes the whole output of the program `strip` for its input, and answers its length: the strip of a take, or what `takelist` prints where

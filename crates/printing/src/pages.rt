@@ -7,7 +7,7 @@ ghost use Rattle.printing.specs.Layout.{padded, answer_row, heading_at, strip_le
 ghost use Rattle.printing.specs.Calls.{take_strip};
 
 use itoa::{Buffer, Integer};
-use listing::{Row, Shown, Take, Text};
+use listing::{Row, Shown, Take, Text, name_of};
 use receiver::Totals;
 
 const HEADING: &[u8] = b"INDEX MARK DIST MARGN TR\n";
@@ -57,7 +57,7 @@ impl Row for Line {
     fn put(text: &mut Text<'_>, index: usize, shown: Shown, _message: &mut [u8]) {
         page(text, index);
         number(text, 5, index, b' ');
-        field(text, 4, shown.mark.name(), b' ');
+        field(text, 4, name_of(shown.mark), b' ');
         number(text, 4, shown.distance, b' ');
         number(text, 5, shown.margin, b' ');
         number(text, 2, shown.tries, b'\n');
