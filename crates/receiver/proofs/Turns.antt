@@ -101,9 +101,9 @@ module _ (s : Search) where
 
       pub grown_room : (2 * to ≤ length ts) × Small 576460752303423488 to ts
       grown_room = (
-          omega (arith, size_most b (omega (arith, below, deep.ready.depth)), grown.size, grown.long),
-          tests_small ss ks p deep.ready (code_of c) lawful b to ts grown.size grown.holds,
-        )
+        omega (arith, size_most b (omega (arith, below, deep.ready.depth)), grown.size, grown.long),
+        tests_small ss ks p deep.ready (code_of c) lawful b to ts grown.size grown.holds,
+      )
 
       pub grown_next : (new : List ℕ) → Doubled (flipped_more (code_of c) (get_or (take p ks) b 0)) to ts new → Grown (b + 1) (2 * to) new
       grown_next new d =

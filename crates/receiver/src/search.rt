@@ -122,7 +122,8 @@ pub struct Search<'a> {
 }
 
 impl<'a> Search<'a> {
-    // The tries of test words that are ready, unless one of them ends the search.
+    // The tries of test words that are ready, unless one of them ends the search. (A turn makes as many tries as it takes to locate positions,
+    // so that no `for` goes over them.)
     fn try_on(&self, tests: &[u64], start: Outcome) -> Outcome
         requires tests { TestWords (code_of (code_in self.now.tables.now)) self.now.word.now.p self.now.word.now.symbols.now tests.now }
         requires tried { Tried (code_of (code_in self.now.tables.now)) self.now.word.now.p self.now.word.now.symbols.now start × (is_sure start.best ≡ false) × (start.tries ≤ length tests.now) }

@@ -31,8 +31,8 @@ returns-then-is_sure c =
     elim c.then-is_sure.branch [
       | then-is_sure-via-then-is_sure w ↦ (all (λ z. cc), e.0.sound)
       | then-is_sure-via-else-is_sure+then-self-eq0 w ↦
-        let one : 1 ≡ 2 ^ c.args.self.now.word.now.p = sym (ap (λ (n : ℕ). 2 ^ n) w.if-self-eq0.true) in
-        (all (λ z. e.1 z ∙ one), e.0.sound)
+          let one : 1 ≡ 2 ^ c.args.self.now.word.now.p = sym (ap (λ (n : ℕ). 2 ^ n) w.if-self-eq0.true) in
+          (all (λ z. e.1 z ∙ one), e.0.sound)
     ]
 
 pub search_on-requires-clause-base : goal.search_on-requires-clause-base
