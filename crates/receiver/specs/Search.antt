@@ -11,7 +11,10 @@ use Rattle.chase.specs.Word.{test}
 use Rattle.chase.proofs.test_words.Doublings.{Holds}
 use Rattle.chase.proofs.search.Ready.{packed_test}
 use Rattle.chase.proofs.search.Passing.{BestBacked}
+use Rattle.refusal.specs.Named.{code_of}
 use Rattle.receiver.specs.declared.flips.Flips.{Flips}
+use Rattle.receiver.specs.declared.least_keys.Ranked.{Ranked}
+use Rattle.receiver.specs.declared.tables.Tables.{Tables}
 use Rattle.receiver.specs.declared.weighing.Weight.{Weight}
 use Rattle.receiver.specs.declared.search.Pick.{Pick}
 use Rattle.receiver.specs.declared.search.Best.{Best}
@@ -22,6 +25,7 @@ use Rattle.receiver.specs.declared.Mark.{Mark}
 use Rattle.receiver.specs.declared.Mark.TheVariants as Mark
 use Rattle.receiver.specs.declared.Soft.{Soft}
 use Rattle.receiver.specs.declared.Soft.TheVariants as Soft
+use Rattle.receiver.specs.Held.{code_in}
 use Rattle.receiver.specs.Located.{flips_of}
 
 -- the best candidate, where there is one
@@ -106,6 +110,19 @@ pub record Tried (c : Code) (p : ℕ) (ss : List ℕ) (o : Outcome) : Type 0 whe
 pub record TestWords (c : Code) (p : ℕ) (ss ts : List ℕ) : Type 0 where
   pub most : length ts ≤ 2 ^ p
   pub are_tests : Holds (packed_test c p ss) (length ts) ts
+
+-- .. of a word that is ranked, by its code's tables
+module _ (t : Tables) (w : Ranked) where
+  abbrev pub TestsOf : List ℕ → Type 0
+  TestsOf ts = TestWords (code_of (code_in t)) w.p w.symbols.now ts
+
+  -- its outcome after some tries
+  abbrev pub TriedOf : Outcome → Type 0
+  TriedOf o = Tried (code_of (code_in t)) w.p w.symbols.now o
+
+  -- and the search's outcome
+  abbrev pub SearchedOf : Outcome → Type 0
+  SearchedOf o = (outcome_of w.p w.symbols.now o ≡ soft_stage (code_of (code_in t)) w.p w.symbols.now) × IsSound (code_in t).n o.best
 
 -- what is written for an answer, of its codeword from a position on, over what was there
 unfoldable pub written_from : ℕ → Answer → List ℕ → List ℕ
