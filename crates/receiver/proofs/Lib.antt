@@ -1,4 +1,5 @@
 pub mod HighBits
+pub mod Locating
 pub mod Marks
 pub mod Outcomes
 pub mod Placed

@@ -4,19 +4,45 @@ use native.Mathlib.Omega.{arith}
 use mathlib.Core.Path.{◌≡◌, refl, ap}
 use mathlib.Core.Logic.{◌⊎◌, ◌≢◌, inl, inr}
 use mathlib.Core.List.{List, []}
+use denote.Enum.Bare.{sameb}
+use denote.Enum.Declared.{tag_of}
+use lib.Dec.{eqb}
 use lib.ListN.{drop}
 use Rattle.std.specs.Prelude.{Result, Ok, Err}
-use Rattle.chase.specs.Soft.{Answer, Mark, lost, fair, sure, answer, lost_answer}
+use Rattle.chase.specs.Soft.{Answer, Mark as Told, lost, fair, sure, answer, lost_answer}
 use Rattle.take_format.specs.Batch.{mark_byte, Totals, counted_of, capped, counted_answer}
 use Rattle.take_format.specs.Refusal as take_format
 use Rattle.refusal.specs.Checked.{answer_of}
 use Rattle.refusal.specs.declared.Refusal.{Refusal}
 use Rattle.receiver.specs.Answer.{found_of, soft_of, byte_of}
 use Rattle.receiver.specs.Search.{answer_in, written_from, mark_in}
+use Rattle.receiver.specs.contracts.Mark.{the_type}
+use Rattle.receiver.specs.declared.Mark as declared
+use Rattle.receiver.specs.declared.Mark.TheVariants as Mark
 use Rattle.receiver.specs.declared.search.Best.{Best}
 use Rattle.receiver.specs.declared.search.Best.TheVariants as Best
 use Rattle.receiver.specs.declared.Soft.{Soft}
 use Rattle.receiver.specs.declared.Soft.TheVariants.{Lost, Fair, Sure}
+
+-- ---- a mark
+
+-- two marks are the same where their bytes are
+pub same_mark : (m a : declared.Mark) → sameb the_type m a ≡ eqb (byte_of a) (byte_of m)
+same_mark Mark.Lost Mark.Lost = refl
+same_mark Mark.Lost Mark.Fair = refl
+same_mark Mark.Lost Mark.Sure = refl
+same_mark Mark.Fair Mark.Lost = refl
+same_mark Mark.Fair Mark.Fair = refl
+same_mark Mark.Fair Mark.Sure = refl
+same_mark Mark.Sure Mark.Lost = refl
+same_mark Mark.Sure Mark.Fair = refl
+same_mark Mark.Sure Mark.Sure = refl
+
+-- a mark's number is its byte
+pub number_told : (m : declared.Mark) → tag_of the_type m ≡ byte_of m
+number_told Mark.Lost = refl
+number_told Mark.Fair = refl
+number_told Mark.Sure = refl
 
 -- ---- an outcome
 
@@ -33,7 +59,7 @@ pub word_written : (from : ℕ) (a : Answer) (old : List ℕ) → mark_byte a.ma
 unfolding written_from
 word_written from a old n = go a.mark refl n
   where
-    go : (m : Mark) → a.mark ≡ m → mark_byte m ≢ 0 → written_from from a old ≡ drop from a.word
+    go : (m : Told) → a.mark ≡ m → mark_byte m ≢ 0 → written_from from a old ≡ drop from a.word
     go lost q n = absurd (n refl)
     go fair q n = rw q refl
     go sure q n = rw q refl

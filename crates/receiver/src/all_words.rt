@@ -46,15 +46,16 @@ fn decode_all(
     let n = tables.field.code.length();
     let k = tables.field.code.message_length();
     let mut totals = Totals::NONE;
-    for (w, mark) in marks.iter_mut().enumerate() {
+    for (w, byte) in marks.iter_mut().enumerate() {
         let o = decode_word(
             tables,
             p,
             &symbols[w * n..w * n + n],
             &mut messages[w * k..w * k + k],
         );
-        *mark = o.mark() as u8;
-        totals = totals.add(o.mark(), o.tries);
+        let mark = o.mark();
+        *byte = mark as u8;
+        totals = totals.add(mark, o.tries);
     }
     totals
 }

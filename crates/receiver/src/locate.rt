@@ -12,6 +12,10 @@
 //
 // What is found are roots by how the tables were filled (`trio_sums`), so that their sums need not be held to the syndromes; only positions at
 // or beyond n are refused. They are handed on in rising order, to both stages; only the last has then to be held to n.
+//
+// Each function is a step of the locator that is defined by logarithms, and rests on that step's law (bch `LogSteps`).
+#![tactic(auto, using(crate::proofs::Locating::steps), unfolding(bch::specs::Hard::three_places, bch::proofs::tables::Placing::positions, bch::proofs::decoding::Sorting::sorted))]
+
 ghost use Rattle.std.specs.Prelude.{◌≡◌, ◌≢◌, [], ◌∷◌, ◌+◌, ◌-◌, ◌*◌, ◌/◌, ◌%◌, ◌<◌, ◌≤◌, ◌^◌, length};
 ghost use Rattle.std.proofs.Math.Option.{none, some};
 ghost use Rattle.std.specs.Int.Bits.{bit_xor};

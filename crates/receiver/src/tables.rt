@@ -104,7 +104,8 @@ fn fill_logs(c: Code, numbers: &mut [u32])
     numbers[0] = (c.period + 8) as u32;
 }
 
-// Where the code has more than t powers: adds α^(d i), times the scale, to each power i.
+// Where the code has more than t powers: adds α^(d i), times the scale, to each power i. (The exponent goes round the period in d turns. One
+// loop that takes it below the period at each step is slower by 16 to 64 percent, and `step_by` in each turn by up to 14.)
 fn add_powers(c: Code, t: usize, d: usize, scale: u32, numbers: &mut [u32])
     requires { Made c × Adds c.m t d scale × FieldPart c.m (stage c.m (min t c.t)) (2 ^ c.m - 1) numbers.old }
     ensures { FieldPart c.m (stage c.m (min (t + 1) c.t)) (2 ^ c.m - 1) numbers.new }
@@ -124,7 +125,8 @@ fn add_powers(c: Code, t: usize, d: usize, scale: u32, numbers: &mut [u32])
     }
 }
 
-// Where t = 2, for w^2 + w, by its logarithm: the logarithms of w and w + 1. (The even w are enough: w + 1 has the same value.)
+// Where t = 2, for w^2 + w, by its logarithm: the logarithms of w and w + 1. (The even w are enough: w + 1 has the same value. With `step_by`
+// in place of the halves of w the whole fill is slower by 6 to 9 percent.)
 fn fill_quadratics(c: Code, numbers: &mut [u32])
     requires { Made c × FieldFilled c.m c.t numbers.old × Rootless c.m numbers.old }
     ensures { PairPart c.m c.t numbers.new }
@@ -141,7 +143,7 @@ fn fill_quadratics(c: Code, numbers: &mut [u32])
     }
 }
 
-// e - d below the period.
+// e - d below the period. (To take e + period - d below it by `reduced` makes the loop that calls this slower by up to 26 percent.)
 fn behind(e: usize, d: usize, period: usize) -> usize
     requires { (e < period) × (d < period) × (period ≤ 1024) }
     ensures { (result ≡ RootFills·behind period e d) × (result < period) }
@@ -149,7 +151,8 @@ fn behind(e: usize, d: usize, period: usize) -> usize
     if d <= e { e - d } else { e + period - d }
 }
 
-// Where t = 3, for w^3 / (w + 1), by its logarithm: the logarithms of two such w, the last ones.
+// Where t = 3, for w^3 / (w + 1), by its logarithm: the logarithms of two such w, the last ones. (In three turns, as above: one loop is slower
+// by 32 to 73 percent, and `step_by` by up to 13.)
 fn fill_kappas(c: Code, numbers: &mut [u32])
     requires { Made c × PairPart c.m c.t numbers.old }
     ensures { RootPart c.m c.t numbers.new }

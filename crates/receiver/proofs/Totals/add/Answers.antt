@@ -2,7 +2,7 @@
 use Prim.Native.Nat.{ℕ, ◌+◌, ◌-◌, ◌^◌, min}
 use denote.Enum.Bare.{sameb}
 use lib.Dec.{eqb}
-use mathlib.Core.Bool.{Bool, cond}
+use mathlib.Core.Bool.{Bool, true, false, cond}
 use mathlib.Core.Path.{◌≡◌, refl, ap, ◌∙◌}
 use mir.Val.{bool_byte}
 use Rattle.take_format.specs.Batch.{counted_of, capped}
@@ -10,24 +10,18 @@ use Rattle.receiver.specs.Answer.{byte_of}
 use Rattle.receiver.specs.contracts.Mark.{the_type}
 use Rattle.receiver.specs.declared.Mark.{Mark}
 use Rattle.receiver.specs.declared.Mark.TheVariants.{Lost, Fair, Sure}
+use Rattle.receiver.proofs.Marks.{same_mark}
 use Rattle.receiver.proofs.Totals.add.Goals as goal
 
--- a mark is one of the three where its byte is
-one_if : (m a : Mark) → bool_byte (sameb the_type m a) ≡ cond (eqb (byte_of a) (byte_of m)) 1 0
-one_if Lost Lost = refl
-one_if Lost Fair = refl
-one_if Lost Sure = refl
-one_if Fair Lost = refl
-one_if Fair Fair = refl
-one_if Fair Sure = refl
-one_if Sure Lost = refl
-one_if Sure Fair = refl
-one_if Sure Sure = refl
+one_if : (b : Bool) → bool_byte b ≡ cond b 1 0
+one_if true = refl
+one_if false = refl
 
--- so a total grows by 1 there
+-- a mark's total grows by 1 where the word has the mark
 grows : (total new bit : ℕ) (is : Bool) (m a : Mark) → is ≡ sameb the_type m a → bit ≡ bool_byte is → new ≡ min (total + bit) (2 ^ 64 - 1)
     → new ≡ min (total + cond (eqb (byte_of a) (byte_of m)) 1 0) (2 ^ 64 - 1)
-grows total new bit is m a e f g = g ∙ ap (λ (n : ℕ). min (total + n) (2 ^ 64 - 1)) (f ∙ ap bool_byte e ∙ one_if m a)
+grows total new bit is m a e f g =
+    g ∙ ap (λ (n : ℕ). min (total + n) (2 ^ 64 - 1)) (f ∙ one_if is ∙ ap (λ (b : Bool). cond b 1 0) (e ∙ same_mark m a))
 
 pub returns : goal.returns
 unfolding capped counted_of

@@ -41,7 +41,7 @@ module _ (c : struct.Code) (xs : List ℕ) (long : length xs ≡ c.n) (bits : Bi
   repaired ts f (Some r) e = (
     repairs_in (code_of c) f.fielded.made.lawful ts f.tables xs long bits s is _ _ _ e,
     placed_below c.n r.count r.at
-    (found_placed (code_of c) f.fielded.made.lawful ts f.tables xs long bits s is _ _ _ e refl r.few (flips_long r)),
+        (found_placed (code_of c) f.fielded.made.lawful ts f.tables xs long bits s is _ _ _ e refl r.few (flips_long r)),
   )
 
 pub returns-then-rest_of-eq0 : goal.returns-then-rest_of-eq0

@@ -1,14 +1,17 @@
 -- Below i the powers hold what is added, from i on what they held; e is d i less a period for each turn. Assumes nothing.
 use Prim.Native.Nat.{ℕ, ◌+◌, ◌-◌, ◌*◌, ◌%◌, ◌^◌, ◌≤◌, ◌<◌, min}
-use native.Mathlib.Nat.{mul-le-mul}
+use native.Mathlib.Nat.{mul-le-mul, mul-suc}
+use native.Mathlib.Numerals.{add-one}
 use native.Mathlib.Omega.{arith}
 use mathlib.Core.Path.{◌≡◌, ap, subst, sym, ◌∙◌}
+use mathlib.Core.Logic.{◌⊎◌, inl, inr}
 use lib.ListN.{get_or, set}
 use mir.Syntax.{w32}
 use mir.Val.{Fits}
 use Rattle.galois.specs.Field.{alpha}
+use Rattle.galois.proofs.Tests.{lt_or_le}
 use Rattle.bch.proofs.tables.TableFills.{FieldPart, stage, stage_low, mixed, mixed_none, mixed_here, mixed_more, mixed_all}
-use Rattle.receiver.proofs.Places.{prime, turning, turn_step, turns_done}
+use Rattle.receiver.proofs.Places.{prime, turning}
 use Rattle.receiver.proofs.tables.add_powers.Goals as goal
 
 -- what is added, and the sum, in 32 bits
@@ -16,6 +19,21 @@ sum_fits : (y k x : ℕ) → y < k → k * 1024 ≤ 2147483648 → Fits w32 (y +
 sum_fits y k x low room =
     let most : k * (x % 1024) ≤ k * 1024 = mul-le-mul (omega arith) (omega arith) in
     record { fits = omega arith }
+
+-- a step
+turn_step : (p d i e n : ℕ) → e + n * p ≡ d * i → e + d + n * p ≡ d * (i + 1)
+turn_step p d i e n sum = let q : d * (i + 1) ≡ d * i + d = ap (λ (x : ℕ). d * x) (add-one i) ∙ omega (arith, mul-suc d i) in omega arith
+
+-- after all turns i is the period
+turns_done : (p d i e n : ℕ) → 1 ≤ d → n ≡ d → i ≤ p → e + n * p ≡ d * i → i ≡ p
+turns_done p d i e n some all most sum = go (lt_or_le i p)
+  where
+    go : (i < p) ⊎ (p ≤ i) → i ≡ p
+    go (inl h) =
+        let a : d * (i + 1) ≤ d * p = mul-le-mul (omega arith) (omega arith) in
+        let b : n * p ≡ d * p = ap (λ (x : ℕ). x * p) all in
+        absurd (omega (arith, turn_step p d i e n sum))
+    go (inr h) = omega arith
 
 pub loop-init : goal.loop-init
 loop-init c =

@@ -3,16 +3,10 @@ use Prim.Native.Nat.{ℕ, ◌+◌, ◌-◌, ◌^◌, ◌<◌}
 use mathlib.Core.Path.{◌≡◌, refl, ap, sym, ◌∙◌}
 use native.Mathlib.Omega.{arith}
 use Rattle.galois.specs.Field.{alpha, double}
-use Rattle.galois.proofs.Primitive.{Primitive, primitive_5_10}
 use Rattle.galois.proofs.FieldTables.{alpha_next}
 use Rattle.bch.proofs.tables.TableFills.{logs_none, logs_more, logs_all}
-use Rattle.refusal.specs.Named.{Made}
-use Rattle.refusal.specs.declared.Code as struct
+use Rattle.receiver.proofs.Places.{prime}
 use Rattle.receiver.proofs.tables.fill_logs.Goals as goal
-
--- the code's polynomial is primitive
-prime : (k : struct.Code) → Made k → Primitive k.m
-prime k made = primitive_5_10 k.m made.lawful.m_least made.lawful.m_most
 
 pub loop-i-init : goal.loop-i-init
 unfolding alpha

@@ -6,11 +6,8 @@ use lib.Bits.{bit_xor}
 use Rattle.galois.specs.Field.{double}
 use Rattle.galois.proofs.Primitive.{primitive_5_10}
 use Rattle.galois.proofs.FieldLaws.{double_lt}
-use Rattle.galois.proofs.FieldTables.{size_most, double_small, double_large}
+use Rattle.galois.proofs.FieldTables.{double_small, double_large}
 use Rattle.receiver.proofs.tables.twice.Goals as goal
-
-pub overflow_mul-y : goal.overflow_mul-y
-overflow_mul-y c = omega (arith, size_most c.args.m c.requires.1)
 
 pub returns-then-y-top : goal.returns-then-y-top
 returns-then-y-top c =

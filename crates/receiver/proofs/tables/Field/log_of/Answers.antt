@@ -3,7 +3,7 @@ use Prim.Native.Nat.{◌+◌, ◌^◌, ◌≤◌}
 use native.Mathlib.Omega.{arith}
 use native.Mathlib.Decide.{ℕ_discrete}
 use mathlib.Core.Path.{refl}
-use Rattle.galois.proofs.Primitive.{primitive_5_10}
+use Rattle.receiver.proofs.Places.{prime}
 use Rattle.bch.proofs.tables.CodeTables.{log_in}
 use Rattle.bch.proofs.tables.TableLoops.{filled_log_lt}
 use Rattle.receiver.proofs.tables.Field.log_of.Goals as goal
@@ -15,7 +15,7 @@ returns c =
     let m = s.code.m in
     let k = s.fielded.made in
     let f = s.fielded.field in
-    let below = filled_log_lt m (primitive_5_10 m k.lawful.m_least k.lawful.m_most) k.size_most s.code.t s.numbers.now f x in
+    let below = filled_log_lt m (prime s.code k) k.size_most s.code.t s.numbers.now f x in
     let most : log_in s.numbers.now x ≤ 2 ^ m + 7 =
     elim (ℕ_discrete x 0) [ yes e ↦ rw e (omega (arith, f.log_none)) | no n ↦ omega (arith, below n c.requires) ] in
     (refl, most, λ n. below n c.requires)
