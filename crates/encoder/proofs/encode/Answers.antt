@@ -1,12 +1,13 @@
 -- The check's refusal, or the codeword. Assumes nothing.
-use mathlib.Core.Path.{ap, sym, ◌∙◌, subst}
+use mathlib.Core.Path.{sym, ◌∙◌, subst}
+use borrow.Author.Rules.{rules}
 use Rattle.bch.specs.Code.{code, message_length}
 use Rattle.bch.specs.Encode.{encoded}
 use Rattle.take_format.specs.Refusal.{bits_refusal, encode_refusal}
-use Rattle.take_format.specs.Calls.{encode_buffer}
+use Rattle.take_format.specs.Calls.{answered, unless_refused, encode_buffer}
 use Rattle.take_format.proofs.checks.RefusalLaws.{BitsAccepted, bits_accepted}
-use Rattle.take_format.proofs.checks.CallLaws.{buffer_some, buffer_none}
-use Rattle.refusal.specs.Checked.{checked}
+use Rattle.take_format.proofs.checks.CallLaws.{buffer_some}
+use Rattle.refusal.specs.Checked.{answer_of, checked}
 use Rattle.refusal.specs.Named.{code_of}
 use Rattle.refusal.specs.declared.Code as struct
 use Rattle.refusal.proofs.Laws.{named_code, named_refused, check_handed_on}
@@ -36,14 +37,5 @@ write-requires c =
     subst (λ (k : struct.Code). BitsAccepted (code_of k) (message_length (code_of k)) xs old) (sym e) (bits_accepted w (message_length w) xs old ok)
 
 pub returns : goal.returns
-unfolding bits_refusal checked encode_buffer
-returns c =
-    let a = c.args in
-    let w = code a.m a.t a.n in
-    let xs = a.message.now in
-    let old = a.codeword.now in
-    let (ok, e) = named_code c.in_ok-c.c (encode_refusal w xs old) w c.in_ok-c.ensures in
-    record {
-      answer = sym ok;
-      codeword = c.write.ensures ∙ ap (λ (k : struct.Code). encoded (code_of k) xs) e ∙ buffer_none _ old (encoded w xs) ok;
-    }
+unfolding answer_of answered checked bits_refusal encode_buffer unless_refused
+returns c = search (rules, named_code)

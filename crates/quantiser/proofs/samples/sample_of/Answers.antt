@@ -1,14 +1,14 @@
 -- A kind of 1 is heard, and any other is blank. Assumes nothing.
-use mathlib.Core.Path.{sym}
-use borrow.Author.Tests.{eq-eqb, ne_eqb}
+use borrow.Author.Rules.{rules}
+use borrow.Author.Tests.{tests}
 use Rattle.take_format.specs.Samples.{sample_of}
 use Rattle.quantiser.specs.Told.{sample_told}
 use Rattle.quantiser.proofs.samples.sample_of.Goals as goal
 
 pub returns-then-kind-eq1 : goal.returns-then-kind-eq1
 unfolding sample_told sample_of
-returns-then-kind-eq1 c = sym (simp (eq-eqb c.args.kind 1 c.if-kind-eq1.true))
+returns-then-kind-eq1 c = search (rules, tests)
 
 pub returns-else-kind-eq1 : goal.returns-else-kind-eq1
 unfolding sample_told sample_of
-returns-else-kind-eq1 c = sym (simp (ne_eqb c.args.kind 1 c.if-kind-eq1.false))
+returns-else-kind-eq1 c = search (rules, tests)
