@@ -7,19 +7,19 @@ use Rattle.ranking.proofs.weakest.Goals as goal
 pub slice_bounds-first_keys-end : goal.slice_bounds-first_keys-end
 slice_bounds-first_keys-end c =
     let ss = c.args.symbols.now in
-    let n = c.least-n in
+    let n = c.min-n in
     omega (arith, n.ensures, length-take n.result ss)
 
 pub first_keys-requires : goal.first_keys-requires
 first_keys-requires c =
     let ss = c.args.symbols.now in
-    let n = c.least-n in
-    (omega (arith, n.ensures, length-take n.result ss), omega (arith, c.least-size.ensures))
+    let n = c.min-n in
+    (omega (arith, n.ensures, length-take n.result ss), omega (arith, c.min-size.ensures))
 
 pub returns : goal.returns
 returns c =
-    let size = c.least-size in
-    let n = c.least-n in
+    let size = c.min-size in
+    let n = c.min-n in
     let k = c.first_keys in
     record {
       at_value = (first_weakest c.args.count size.result n.result c.args.symbols.now k.result.at k.result.more size.ensures n.ensures
