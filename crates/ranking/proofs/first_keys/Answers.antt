@@ -27,7 +27,7 @@ loop-k-preserved-then-k-lt6 c =
     let k = (zip_first l.k-iterator).start in
     let key = c.in-Some.key in
     let next = next_put k key (l.at ++ l.more) (level_keys 16 0 c.args.symbols.now) (to_come (zip_second c.next.new.self)) (omega arith) i.placed
-        (sym i.come ∙ h.1) in
+    (sym i.come ∙ h.1) in
     rw (h.0.1.1, h.0.1.2) (record {
       six = simp length-set i.six;
       two = i.two;
@@ -45,7 +45,7 @@ loop-k-preserved c =
     let k = (zip_first l.k-iterator).start in
     let key = c.in-Some.key in
     let next = next_put k key (l.at ++ l.more) (level_keys 16 0 c.args.symbols.now) (to_come (zip_second c.next.new.self)) (omega arith) i.placed
-        (sym i.come ∙ h.1) in
+    (sym i.come ∙ h.1) in
     rw (h.0.1.1, h.0.1.2) (record {
       six = i.six;
       two = simp length-set i.two;
@@ -62,6 +62,9 @@ returns c =
     elim c.in-None.ensures.steps [
       | inl d ↦ (let all : (zip_first l.k-iterator).start ≡ c.args.size = omega (arith, d.1.1, i.end, i.within) in
           (i.placed ∙ ap (λ (k : ℕ). padded (take k (level_keys 16 0 c.args.symbols.now))) all, i.six))
-      | inr d ↦ (i.placed ∙ ap padded (all_taken (zip_first l.k-iterator).start c.args.size (level_keys 16 0 c.args.symbols.now) i.within
-          (sym i.come ∙ d.1.0)), i.six)
+      | inr d ↦ (
+        i.placed ∙ ap padded (all_taken (zip_first l.k-iterator).start c.args.size (level_keys 16 0 c.args.symbols.now) i.within
+            (sym i.come ∙ d.1.0)),
+        i.six,
+      )
     ]

@@ -16,5 +16,5 @@ invariant-loop-k l = record {
   within : (zip_first l.k-iterator).start ≤ l.size;
   end : (zip_first l.k-iterator).end ≡ l.size;
   placed : l.at ++ l.more ≡ padded (take ((zip_first l.k-iterator).start) (level_keys 16 0 l.symbols));
-  come : to_come (zip_second l.k-iterator) ≡ drop ((zip_first l.k-iterator).start) (level_keys 16 0 l.symbols)
+  come : to_come (zip_second l.k-iterator) ≡ drop ((zip_first l.k-iterator).start) (level_keys 16 0 l.symbols);
 }

@@ -1,9 +1,9 @@
 -- The levels passed have no more symbols. Assumes nothing.
-use Prim.Native.Nat.{ℕ, suc, ◌+◌, ◌-◌, ◌*◌, ◌≤◌}
+use Prim.Native.Nat.{ℕ, suc, ◌-◌, ◌≤◌}
 use native.Mathlib.Omega.{arith}
 use mathlib.Core.Path.{◌≡◌, refl, ap, sym, ◌∙◌}
 use mathlib.Core.List.{List, ◌++◌}
-use Rattle.ranking.specs.Levels.{level_from, level_keys, come}
+use Rattle.ranking.specs.Levels.{level_from, level_keys}
 use Rattle.ranking.proofs.Steps.{levels_over, levels_next}
 use Rattle.ranking.proofs.Cursors.{found_come, empty_come}
 use Rattle.ranking.proofs.Cursor.onward.Goals as goal

@@ -10,7 +10,7 @@ abbrev pub invariant-loop-z : goal.invariant-loop-z
 invariant-loop-z l = record {
   level : l.z ≤ 16;
   same : l.self ≡ l.fn.self;
-  come : to_come l.fn.self ≡ level_from l.z l.from l.fn.self.symbols.now ++ level_keys (15 - l.z) (suc l.z) l.fn.self.symbols.now
+  come : to_come l.fn.self ≡ level_from l.z l.from l.fn.self.symbols.now ++ level_keys (15 - l.z) (suc l.z) l.fn.self.symbols.now;
 }
 
 abbrev pub decreases-loop-z : goal.decreases-loop-z
