@@ -26,14 +26,6 @@ length_marks : (z : ℕ) (ss : List ℕ) → length (marks z ss) ≡ length ss
 unfolding marks
 length_marks z ss = length-map ss (λ (s : ℕ). eqb (s % 16) z)
 
--- the marks from i on
-marks_at : (z i : ℕ) (ss : List ℕ) → i < length ss → drop i (marks z ss) ≡ eqb (get_or ss i 0 % 16) z ∷ drop (suc i) (marks z ss)
-unfolding marks
-marks_at z zero [] h = absurd (omega arith)
-marks_at z zero (s ∷ ss) h = refl
-marks_at z (suc i) [] h = absurd (omega arith)
-marks_at z (suc i) (s ∷ ss) h = marks_at z i ss (omega arith)
-
 marks_drop : (z i : ℕ) (ss : List ℕ) → marks z (drop i ss) ≡ drop i (marks z ss)
 unfolding marks
 marks_drop z zero ss = refl
@@ -43,9 +35,6 @@ marks_drop z (suc i) (s ∷ ss) = marks_drop z i ss
 marks_take : (z i : ℕ) (ss : List ℕ) → marks z (take i ss) ≡ take i (marks z ss)
 unfolding marks
 marks_take z i ss = map_take (λ (s : ℕ). eqb (s % 16) z) i ss
-
-marks_end : (z i : ℕ) (ss : List ℕ) → i ≡ length ss → drop i (marks z ss) ≡ []
-marks_end z i ss h = rw (h, ← length_marks z ss, drop-length)
 
 -- ---- whether there is a mark
 

@@ -18,8 +18,8 @@ pub returns-in-Some : goal.returns-in-Some
 returns-in-Some c =
     let l = c.loop-z in
     let f = c.in-Some in
-    rw (c.from.ensures, l.invariant.same)
-    (found_come l.z l.from f.i f.bits c.args.self.now.symbols.now (rw l.invariant.same at f.ensures) ∙ sym l.invariant.come, f.ensures.some)
+    let here = found_come l.z l.from f.i f.bits c.args.self.now.symbols.now (rw l.invariant.same at f.ensures) in
+    record { same = rw (c.from.ensures, l.invariant.same) (here ∙ sym l.invariant.come); some = f.ensures.some }
 
 pub loop-z-preserved : goal.loop-z-preserved
 loop-z-preserved c =
@@ -39,4 +39,4 @@ returns c =
     let ss = c.args.self.now.symbols.now in
     let over : l.z ≡ 16 = omega (arith, l.invariant.level) in
     let none = l.invariant.come ∙ ap (λ (z : ℕ). level_from z l.from ss ++ level_keys (15 - z) (suc z) ss) over ∙ levels_over l.from ss in
-    (none, rw l.invariant.same none)
+    record { same = rw l.invariant.same refl; some = rw l.invariant.same none }
