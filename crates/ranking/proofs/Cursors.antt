@@ -85,7 +85,8 @@ found_come z from i bits ss f =
     rw e (ap (λ (l : List ℕ). l ++ level_keys (15 - z) (suc z) ss) (sym f.same))
 
 -- where no bit is left, those of its level from its position on
-pub empty_come : (next left key z : ℕ) (ss : List ℕ) → left ≡ 0 → come next left key z ss ≡ level_from z next ss ++ level_keys (15 - z) (suc z) ss
+pub empty_come : (next left key z : ℕ) (ss : List ℕ) → left ≡ 0
+    → come next left key z ss ≡ level_from z next ss ++ level_keys (15 - z) (suc z) ss
 unfolding come
 empty_come next left key z ss h = rw (h, keys_none)
 
@@ -101,8 +102,8 @@ pub record Stepped (next left key z t : ℕ) : Type 0 where
   pub bits : left / 2 ^ t / 2 < 2 ^ (z * 1024 + next - (key + t + 1))
   pub taken : (ss : List ℕ) → come next left key z ss ≡ (key + t) ∷ come next (left / 2 ^ t / 2) (key + t + 1) z ss
 
-pub stepped : (next left key z t : ℕ) → t ≡ count_trailing_zeros 32 left → 0 < left → key ≤ z * 1024 + next → z * 1024 + next ≤ key + 16
-    → left < 2 ^ (z * 1024 + next - key) → Stepped next left key z t
+pub stepped : (next left key z t : ℕ) → t ≡ count_trailing_zeros 32 left → 0 < left
+    → key ≤ z * 1024 + next → z * 1024 + next ≤ key + 16 → left < 2 ^ (z * 1024 + next - key) → Stepped next left key z t
 unfolding come
 stepped next left key z t zeros some begun few bits =
     let low : Lowest (z * 1024 + next - key) left key t = rw zeros (lowest (z * 1024 + next - key) 32 left key (omega arith) some bits) in

@@ -15,8 +15,8 @@ use Rattle.std.proofs.lemmas.List.{reverse-append}
 use Rattle.std.proofs.lemmas.Grind.{fold-append, or_after_shift}
 use lib.Pow.{pow_mono}
 use lib.Count.{count_trailing_zeros, under}
-use lib.ListN.{length, length-drop, drop_of_length-le, length-take, take-append-drop, get_or, drop, take, length-map}
-use lib.Seq.{drop-length, drop-drop, take_all, length-take-le}
+use lib.ListN.{length, length-drop, drop_of_length-le, length-take, take-append-drop, drop, take, length-map}
+use lib.Seq.{drop-drop, take_all, length-take-le}
 use Rattle.chase.proofs.ranking.Keys.{map_take}
 use Rattle.ranking.specs.Levels.{marks, any_of, bits_of, marked, bit_keys, level_from}
 
@@ -39,7 +39,8 @@ marks_take z i ss = map_take (λ (s : ℕ). eqb (s % 16) z) i ss
 -- ---- whether there is a mark
 
 -- found already, or among these
-pub any_found : (found : Bool) (z : ℕ) (ss : List ℕ) → fold (λ (f : Bool) (s : ℕ). f || eqb (s % 16) z) found ss ≡ cond found true (any_of (marks z ss))
+pub any_found : (found : Bool) (z : ℕ) (ss : List ℕ)
+    → fold (λ (f : Bool) (s : ℕ). f || eqb (s % 16) z) found ss ≡ cond found true (any_of (marks z ss))
 unfolding any_of marks
 any_found true z [] = refl
 any_found false z [] = refl
@@ -97,7 +98,7 @@ bits_taken z [] h = refl
 bits_taken z (s ∷ ss) h =
     let add = λ (b s : ℕ). bit_or (b * 2 % 2 ^ 32) (cond (eqb (s % 16) z) 1 0) in
     ap (fold add 0) (reverse-append (s ∷ []) ss) ∙ fold-append add 0 (reverse ss) (s ∷ [])
-    ∙ ap (λ (x : ℕ). bit_or (x * 2 % 2 ^ 32) (cond (eqb (s % 16) z) 1 0)) (bits_taken z ss (omega arith))
+    ∙ ap (λ (x : ℕ). add x s) (bits_taken z ss (omega arith))
     ∙ bit_more (eqb (s % 16) z) (bits_of (marks z ss)) (marks_small z ss (omega arith))
 
 pub sixteen_taken : (z r : ℕ) (ss : List ℕ) → length ss ≤ 16

@@ -21,21 +21,22 @@ abbrev above : ℕ → ℕ → ℕ
 above z s = cond (ltb z (s % 16)) (s % 16) 16
 
 -- the least of these, and of one before
-least : (z y : ℕ) (ss : List ℕ) → z < y → y ≤ 16 → (fold min y (map (above z) ss) ≤ y) × Next z (fold min y (map (above z) ss)) ss
-least z y [] h m = (omega arith, record { above = h; most = m; none = λ i l. absurd (omega arith) })
-least z y (s ∷ ss) h m = go (ltb z (s % 16)) refl (λ w l k. least z w ss l k)
+abbrev least : ℕ → ℕ → List ℕ → ℕ
+least z y ss = fold min y (map (above z) ss)
+
+next_before : (z y : ℕ) (ss : List ℕ) → z < y → y ≤ 16 → (least z y ss ≤ y) × Next z (least z y ss) ss
+next_before z y [] h m = (omega arith, record { above = h; most = m; none = λ i l. absurd (omega arith) })
+next_before z y (s ∷ ss) h m = go (ltb z (s % 16)) refl (λ w l k. next_before z w ss l k)
   where
-    more : (w : ℕ) → (fold min w (map (above z) ss) ≤ w) × Next z (fold min w (map (above z) ss)) ss → (z < s % 16 → w ≤ s % 16)
-        → Next z (fold min w (map (above z) ss)) (s ∷ ss)
+    more : (w : ℕ) → (least z w ss ≤ w) × Next z (least z w ss) ss → (z < s % 16 → w ≤ s % 16) → Next z (least z w ss) (s ∷ ss)
     more w n first = record { above = n.1.above; most = n.1.most; none = each }
       where
-        each : (i : ℕ) → i < length (s ∷ ss) → z < get_or (s ∷ ss) i 0 % 16 → fold min w (map (above z) ss) ≤ get_or (s ∷ ss) i 0 % 16
+        each : (i : ℕ) → i < length (s ∷ ss) → z < get_or (s ∷ ss) i 0 % 16 → least z w ss ≤ get_or (s ∷ ss) i 0 % 16
         each zero l v = omega (arith, n.0, first v)
         each (suc i) l v = n.1.none i (omega arith) v
 
-    go : (b : Bool) → ltb z (s % 16) ≡ b
-        → ((w : ℕ) → z < w → w ≤ 16 → (fold min w (map (above z) ss) ≤ w) × Next z (fold min w (map (above z) ss)) ss)
-        → (fold min (min y (cond b (s % 16) 16)) (map (above z) ss) ≤ y) × Next z (fold min (min y (cond b (s % 16) 16)) (map (above z) ss)) (s ∷ ss)
+    go : (b : Bool) → ltb z (s % 16) ≡ b → ((w : ℕ) → z < w → w ≤ 16 → (least z w ss ≤ w) × Next z (least z w ss) ss)
+        → (least z (min y (cond b (s % 16) 16)) ss ≤ y) × Next z (least z (min y (cond b (s % 16) 16)) ss) (s ∷ ss)
     go true e others =
         let l : z < s % 16 = ltb-true z (s % 16) e in
         let n = others (min y (s % 16)) (omega arith) (omega arith) in
@@ -45,7 +46,7 @@ least z y (s ∷ ss) h m = go (ltb z (s % 16)) refl (λ w l k. least z w ss l k)
         (omega (arith, n.0), more (min y 16) n (λ l. absurd (let q : ◌≡◌ {A = Bool} true false = sym (lt-ltb z (s % 16) l) ∙ e in cc)))
 
 pub next_least : (z : ℕ) (ss : List ℕ) → z < 16 → Next z (fold min 16 (map (above z) ss)) ss
-next_least z ss h = (least z 16 ss h (omega arith)).1
+next_least z ss h = (next_before z 16 ss h (omega arith)).1
 
 -- of two parts that leave out no symbol of the word, the lower
 pub next_parts : (z y x r a b w : ℕ) (ss : List ℕ) → Next z y (take a ss) → Next z x (take w (drop b ss)) → r ≡ min y x

@@ -44,8 +44,8 @@ pub record Next (z y : ℕ) (ss : List ℕ) : Type 0 where
 
 -- ---- how far the keys are taken
 
--- the keys still to come: those of the bits `left`, the lowest of which stands for `key`, then of the symbols of reliability z from position
--- `next` on, and then of the levels above
+-- the keys still to come: those of the bits `left`, the lowest of which stands for `key`, then of the symbols of reliability z from
+-- position `next` on, and then of the levels above
 unfoldable pub come : ℕ → ℕ → ℕ → ℕ → List ℕ → List ℕ
 unfolding bit_keys level_keys
 come next left key z ss = bit_keys (z * 1024 + next - key) left key ++ level_from z next ss ++ level_keys (15 - z) (suc z) ss
