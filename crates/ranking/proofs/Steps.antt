@@ -48,6 +48,10 @@ next_before z y (s ∷ ss) h m = go (ltb z (s % 16)) refl (λ w l k. next_before
 pub next_least : (z : ℕ) (ss : List ℕ) → z < 16 → Next z (fold min 16 (map (above z) ss)) ss
 next_least z ss h = (next_before z 16 ss h (omega arith)).1
 
+-- between a level and the one after it there is none
+pub next_one : (z : ℕ) (ss : List ℕ) → z < 16 → Next z (z + 1) ss
+next_one z ss h = record { above = omega arith; most = omega arith; none = λ i l w. omega arith }
+
 -- of two parts that leave out no symbol of the word, the lower
 pub next_parts : (z y x r a b w : ℕ) (ss : List ℕ) → Next z y (take a ss) → Next z x (take w (drop b ss)) → r ≡ min y x
     → a ≤ length ss → b ≤ a → b + w ≡ length ss → Next z r ss
@@ -101,7 +105,7 @@ unfolding level_keys
 levels_over i ss = rw (level_none 16 i ss (λ j l e. omega arith))
 
 -- the levels above z are those from the next on
-pub levels_next : (z y : ℕ) (ss : List ℕ) → z < 16 → Next z y ss → level_keys (15 - z) (suc z) ss ≡ level_from y 0 ss ++ level_keys (15 - y) (suc y) ss
+levels_next : (z y : ℕ) (ss : List ℕ) → z < 16 → Next z y ss → level_keys (15 - z) (suc z) ss ≡ level_from y 0 ss ++ level_keys (15 - y) (suc y) ss
 unfolding level_keys
 levels_next z y ss h n =
     let e : 15 - z ≡ (y - suc z) + (16 - y) = omega (arith, n.above, n.most) in
@@ -112,3 +116,9 @@ levels_next z y ss h n =
       | yes l ↦ (let g : 16 - y ≡ suc (15 - y) = omega arith in rw g)
       | no l ↦ (let g : y ≡ 16 = omega (arith, n.most) in rw g (sym (levels_over 0 ss)))
     ])
+
+-- where level z has no more keys, the keys to come are those from the next on
+pub level_passed : (z y from : ℕ) (ss ks : List ℕ) → z < 16 → ks ≡ level_from z from ss ++ level_keys (15 - z) (suc z) ss → level_from z from ss ≡ []
+    → Next z y ss → ks ≡ level_from y 0 ss ++ level_keys (15 - y) (suc y) ss
+level_passed z y from ss ks h come none n =
+    come ∙ ap (λ (l : List ℕ). l ++ level_keys (15 - z) (suc z) ss) none ∙ levels_next z y ss h n

@@ -1,10 +1,10 @@
 -- The levels passed have no more symbols. Assumes nothing.
-use Prim.Native.Nat.{ℕ, suc, ◌-◌, ◌≤◌}
+use Prim.Native.Nat.{ℕ, suc, ◌+◌, ◌-◌, ◌≤◌}
 use native.Mathlib.Omega.{arith}
 use mathlib.Core.Path.{◌≡◌, refl, ap, sym, ◌∙◌}
 use mathlib.Core.List.{List, ◌++◌}
-use Rattle.ranking.specs.Levels.{level_from, level_keys}
-use Rattle.ranking.proofs.Steps.{levels_over, levels_next}
+use Rattle.ranking.specs.Levels.{Next, level_from, level_keys}
+use Rattle.ranking.proofs.Steps.{next_one, levels_over, level_passed}
 use Rattle.ranking.proofs.Cursors.{found_come, empty_come}
 use Rattle.ranking.proofs.Cursor.onward.Goals as goal
 
@@ -21,17 +21,22 @@ returns-in-Some c =
     let here = found_come l.z l.from f.i f.bits c.args.self.now.symbols.now (rw l.invariant.same at f.ensures) in
     record { same = rw (c.from.ensures, l.invariant.same) (here ∙ sym l.invariant.come); some = f.ensures.some }
 
+pub loop-z-preserved-then-from-eq0 : goal.loop-z-preserved-then-from-eq0
+loop-z-preserved-then-from-eq0 c =
+    let l = c.loop-z in
+    let ss = c.args.self.now.symbols.now in
+    let y = c.next_above-z in
+    let n : Next l.z y.result ss = rw l.invariant.same at y.ensures in
+    let come = level_passed l.z y.result l.from ss _ c.loop-z-test.true l.invariant.come (rw l.invariant.same at c.in_default.ensures) n in
+    record { level = n.most; same = l.invariant.same; come = come }
+
 pub loop-z-preserved : goal.loop-z-preserved
 loop-z-preserved c =
     let l = c.loop-z in
-    let y = c.following-z in
     let ss = c.args.self.now.symbols.now in
-    record {
-      level = y.ensures.most;
-      same = l.invariant.same;
-      come = l.invariant.come ∙ ap (λ (k : List ℕ). k ++ level_keys (15 - l.z) (suc l.z) ss) (rw l.invariant.same at c.in_default.ensures)
-          ∙ levels_next l.z y.result ss c.loop-z-test.true (rw l.invariant.same at y.ensures);
-    }
+    let n = next_one l.z ss c.loop-z-test.true in
+    let come = level_passed l.z (l.z + 1) l.from ss _ c.loop-z-test.true l.invariant.come (rw l.invariant.same at c.in_default.ensures) n in
+    record { level = n.most; same = l.invariant.same; come = come }
 
 pub returns : goal.returns
 returns c =
