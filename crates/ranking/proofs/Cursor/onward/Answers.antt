@@ -2,7 +2,7 @@
 use Prim.Native.Nat.{ℕ, suc, ◌+◌, ◌-◌, ◌≤◌}
 use native.Mathlib.Omega.{arith}
 use mathlib.Core.Path.{◌≡◌, refl, ap, sym, ◌∙◌}
-use mathlib.Core.List.{List, ◌++◌}
+use mathlib.Core.List.{◌++◌}
 use Rattle.ranking.specs.Levels.{Next, level_from, level_keys}
 use Rattle.ranking.proofs.Steps.{next_one, levels_over, level_passed}
 use Rattle.ranking.proofs.Cursors.{found_come, empty_come}
