@@ -1,5 +1,5 @@
 -- What is found after all sixteen tells whether there is one. Assumes nothing.
-use Rattle.std.proofs.Common.{arith, ◌≡◌, ◌∙◌, ℕ, ◌%◌, Bool, false, nat_eq}
+use Rattle.std.proofs.Common.{arith, ◌≡◌, ◌∙◌, ap, ℕ, ◌%◌, Bool, false, nat_eq}
 use Rattle.std.proofs.lemmas.Grind.{common_steps}
 use Rattle.std.specs.List.{fold}
 use mathlib.Core.Bool.{◌||◌}
@@ -9,5 +9,6 @@ use Rattle.ranking.proofs.any.Goals as goal
 pub returns : goal.returns
 returns c =
     let a = c.args in
-    let e : c.fold.result ≡ fold (λ (f : Bool) (s : ℕ). f || nat_eq (s % 16) a.z) false a.s.now = grind (arith, common_steps) in
-    e ∙ any_found false a.z a.s.now
+    let add = λ (f : Bool) (s : ℕ). f || nat_eq (s % 16) a.z in
+    let e : c.fold.result ≡ fold add false c.iter.result.rest.now = grind (arith, common_steps) in
+    e ∙ ap (fold add false) c.iter.ensures.rest ∙ any_found false a.z a.s.now
