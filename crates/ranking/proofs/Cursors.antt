@@ -1,4 +1,4 @@
--- Cursors through the keys of a word by levels, and the eight places that the first keys go into. Assumes nothing.
+-- The keys of a word by levels that a cursor has before it, and the eight places that the first keys go into. Assumes nothing.
 use Prim.Native.Nat.{ℕ, zero, suc, ◌+◌, ◌-◌, ◌*◌, ◌/◌, ◌^◌, ◌≤◌, ◌<◌}
 use native.Mathlib.Omega.{arith}
 use native.Mathlib.Numerals.{add-one}
@@ -9,8 +9,7 @@ use lib.ListN.{length, take, drop, set, replicate, length-append, length-take, l
 use lib.Seq.{take_all, length-take-le, take-set-lt, set-append_seam, set-append_left}
 use Rattle.chase.proofs.ranking.Keys.{take_replicate}
 use Rattle.ranking.specs.Weakest.{padded}
-use Rattle.ranking.specs.Levels.{marks, bits_of, bit_keys, level_from, level_keys, end_of, keys_left, to_come, Sound, Sought, Stepped}
-use Rattle.ranking.specs.declared.Cursor.{Cursor}
+use Rattle.ranking.specs.Levels.{marks, bits_of, bit_keys, level_from, level_keys, come, Found}
 use Rattle.ranking.proofs.Marking.{Lowest, lowest, keys_none, marked_end, level_sixteen, sixteen_small}
 
 -- ---- eight places
@@ -75,59 +74,50 @@ all_taken k size all h e =
     let l : length all ≤ k = omega (arith, ap length e, length-drop k all) in
     take_all k all l ∙ sym (take_all size all (omega arith))
 
--- ---- a cursor
+-- ---- the keys still to come
 
--- at the first symbols of a level from a position on, these and the levels above are still to come
-pub sought_come : (z i : ℕ) (ss : List ℕ) (c : Cursor) → Sought z i ss c → to_come c ss ≡ level_from z i ss ++ level_keys (15 - z) (suc z) ss
-unfolding to_come
-sought_come z i ss c s =
-    sym (ap (λ (l : List ℕ). l ++ level_keys (15 - z) (suc z) ss) s.same
-    ∙ ap (λ (y : ℕ). keys_left c ++ level_from y c.next ss ++ level_keys (15 - y) (suc y) ss) (sym s.level))
+-- at the first symbols of a level from a position on, these and the levels above are
+pub found_come : (z from i bits : ℕ) (ss : List ℕ) → Found z from ss i bits
+    → come (i + 16) bits (z * 1024 + i) z ss ≡ level_from z from ss ++ level_keys (15 - z) (suc z) ss
+unfolding come
+found_come z from i bits ss f =
+    let e : z * 1024 + (i + 16) - (z * 1024 + i) ≡ 16 = omega arith in
+    rw e (ap (λ (l : List ℕ). l ++ level_keys (15 - z) (suc z) ss) (sym f.same))
 
 -- where no bit is left, those of its level from its position on
-pub empty_come : (c : Cursor) (ss : List ℕ) → c.left ≡ 0 → to_come c ss ≡ level_from c.z c.next ss ++ level_keys (15 - c.z) (suc c.z) ss
-unfolding to_come
-empty_come c ss h = rw (h, keys_none)
+pub empty_come : (next left key z : ℕ) (ss : List ℕ) → left ≡ 0
+    → come next left key z ss ≡ level_from z next ss ++ level_keys (15 - z) (suc z) ss
+unfolding come
+empty_come next left key z ss h = rw (h, keys_none)
 
--- at the start all keys are still to come
-abbrev pub start : Cursor
-start = record { z = 0; next = 0; key = 0; left = 0 }
-
-pub start_sound : Sound start
-start_sound = record { level = omega arith; near = omega arith; begun = omega arith; few = omega arith; bits = omega arith }
-
-pub start_come : (ss : List ℕ) → to_come start ss ≡ level_keys 16 0 ss
+-- at the start all keys are
+pub start_come : (ss : List ℕ) → come 0 0 0 0 ss ≡ level_keys 16 0 ss
 unfolding level_keys
-start_come ss = empty_come start ss refl
+start_come ss = empty_come 0 0 0 0 ss refl
 
 -- the key of the lowest bit is the next
-module _ (c : Cursor) (sound : Sound c) (some : 0 < c.left) (t : ℕ) (zeros : t ≡ count_trailing_zeros 32 c.left) where
-  low : Lowest (end_of c - c.key) c.left c.key t
-  low = rw zeros (lowest (end_of c - c.key) 32 c.left c.key (omega (arith, sound.few)) some sound.bits)
+pub record Stepped (next left key z t : ℕ) : Type 0 where
+  pub few : t < 16
+  pub begun : key + t + 1 ≤ z * 1024 + next
+  pub bits : left / 2 ^ t / 2 < 2 ^ (z * 1024 + next - (key + t + 1))
+  pub taken : (ss : List ℕ) → come next left key z ss ≡ (key + t) ∷ come next (left / 2 ^ t / 2) (key + t + 1) z ss
 
-  pub zeros_few : t < 16
-  zeros_few = omega (arith, low.within, sound.few)
+pub stepped : (next left key z t : ℕ) → t ≡ count_trailing_zeros 32 left → 0 < left
+    → key ≤ z * 1024 + next → z * 1024 + next ≤ key + 16 → left < 2 ^ (z * 1024 + next - key) → Stepped next left key z t
+unfolding come
+stepped next left key z t zeros some begun few bits =
+    let low : Lowest (z * 1024 + next - key) left key t = rw zeros (lowest (z * 1024 + next - key) 32 left key (omega arith) some bits) in
+    let e : z * 1024 + next - (key + t + 1) ≡ z * 1024 + next - key - suc t = omega arith in
+    record {
+      few = omega (arith, low.within);
+      begun = omega (arith, low.within);
+      bits = rw e low.small;
+      taken = λ ss. rw e (ap (λ (l : List ℕ). l ++ level_from z next ss ++ level_keys (15 - z) (suc z) ss) low.keys);
+    }
 
-  pub stepped : Stepped c (record { next = c.next; left = c.left / 2 ^ t / 2; key = c.key + t + 1; z = c.z })
-  unfolding to_come
-  stepped =
-      let e : end_of c - (c.key + t + 1) ≡ end_of c - c.key - suc t = omega arith in
-      let f : c.key + t + 1 - 1 ≡ c.key + t = omega arith in
-      record {
-        sound = record {
-          level = sound.level;
-          near = sound.near;
-          begun = omega (arith, low.within);
-          few = omega (arith, sound.few);
-          bits = rw e low.small;
-        };
-        later = omega arith;
-        taken = λ ss. rw (e, f) (ap (λ (l : List ℕ). l ++ level_from c.z c.next ss ++ level_keys (15 - c.z) (suc c.z) ss) low.keys);
-      }
+-- ---- seeking: the symbols of level z from a position on, of which those before i are none
 
--- ---- seeking: the symbols of level z from a position on, of which those before i are none. (w is z in a wider type.)
-
-module _ (z w from i : ℕ) (ss : List ℕ) (wide : w ≡ z) (level : z < 16) (passed : level_from z from ss ≡ level_from z i ss) where
+module _ (z from i : ℕ) (ss : List ℕ) (passed : level_from z from ss ≡ level_from z i ss) where
   module _ (bits : ℕ) (are_bits : bits ≡ bits_of (take 16 (drop i (marks z ss)))) where
     rest : level_from z from ss ≡ bit_keys 16 bits (z * 1024 + i) ++ level_from z (i + 16) ss
     rest = passed ∙ level_sixteen z i ss ∙ ap (λ (x : ℕ). bit_keys 16 x (z * 1024 + i) ++ level_from z (i + 16) ss) (sym are_bits)
@@ -137,37 +127,9 @@ module _ (z w from i : ℕ) (ss : List ℕ) (wide : w ≡ z) (level : z < 16) (p
     sixteen_none e = rest ∙ ap (λ (l : List ℕ). l ++ level_from z (i + 16) ss) (ap (λ (x : ℕ). bit_keys 16 x (z * 1024 + i)) e ∙ keys_none 16 (z * 1024 + i))
 
     -- .. or some
-    pub sixteen_found : i < 1024 → (bits ≡ 0 → ⊥) → Sought z from ss (record { z = z; next = i + 16; key = w * 1024 + i; left = bits })
-    sixteen_found near some =
-        let e : z * 1024 + (i + 16) - (w * 1024 + i) ≡ 16 = omega arith in
-        let k : z * 1024 + i ≡ w * 1024 + i = omega arith in
-        record {
-          sound = record {
-            level = level;
-            near = omega arith;
-            begun = omega arith;
-            few = omega arith;
-            bits = rw e (omega (arith, are_bits, sixteen_small z i ss));
-          };
-          level = refl;
-          same = rest ∙ ap (λ (x : ℕ). bit_keys 16 bits x ++ level_from z (i + 16) ss) k ∙ rw e refl;
-          none = λ h. absurd (some h);
-        }
+    pub sixteen_found : i < length ss → 0 < bits → Found z from ss i bits
+    sixteen_found near some = record { within = near; some = some; small = omega (arith, are_bits, sixteen_small z i ss); same = rest }
 
   -- at the end of the word there are none
-  pub seek_end : i ≤ 1040 → length ss ≤ i → Sought z from ss (record { z = z; next = i; key = w * 1024 + i; left = 0 })
-  seek_end near end =
-      let e : z * 1024 + i - (w * 1024 + i) ≡ 0 = omega arith in
-      let none : level_from z i ss ≡ [] = marked_end (z * 1024 + i) z i ss end in
-      record {
-        sound = record {
-          level = level;
-          near = near;
-          begun = omega arith;
-          few = omega arith;
-          bits = rw e (omega arith);
-        };
-        level = refl;
-        same = passed ∙ rw (e, keys_none);
-        none = λ h. passed ∙ none;
-      }
+  pub seek_end : length ss ≤ i → level_from z from ss ≡ []
+  seek_end end = passed ∙ marked_end (z * 1024 + i) z i ss end

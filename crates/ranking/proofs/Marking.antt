@@ -9,10 +9,14 @@ use mathlib.Core.Bool.{Bool, true, false, cond, ◌||◌}
 use mathlib.Core.List.{List, [], ◌∷◌, ◌++◌}
 use borrow.Author.Tests.{eq-eqb, ne_eqb}
 use lib.Dec.{eqb}
+use Rattle.std.specs.List.{fold}
+use Rattle.std.proofs.Common.{bit_or, reverse}
+use Rattle.std.proofs.lemmas.List.{reverse-append}
+use Rattle.std.proofs.lemmas.Grind.{fold-append, or_after_shift}
 use lib.Pow.{pow_mono}
 use lib.Count.{count_trailing_zeros, under}
-use lib.ListN.{length, length-drop, drop_of_length-le, length-take, take-append-drop, get_or, drop, take, length-map}
-use lib.Seq.{drop-length, drop-drop, take_all, length-take-le}
+use lib.ListN.{length, length-drop, drop_of_length-le, length-take, take-append-drop, drop, take, length-map}
+use lib.Seq.{drop-drop, take_all, length-take-le}
 use Rattle.chase.proofs.ranking.Keys.{map_take}
 use Rattle.ranking.specs.Levels.{marks, any_of, bits_of, marked, bit_keys, level_from}
 
@@ -21,14 +25,6 @@ use Rattle.ranking.specs.Levels.{marks, any_of, bits_of, marked, bit_keys, level
 length_marks : (z : ℕ) (ss : List ℕ) → length (marks z ss) ≡ length ss
 unfolding marks
 length_marks z ss = length-map ss (λ (s : ℕ). eqb (s % 16) z)
-
--- the marks from i on
-marks_at : (z i : ℕ) (ss : List ℕ) → i < length ss → drop i (marks z ss) ≡ eqb (get_or ss i 0 % 16) z ∷ drop (suc i) (marks z ss)
-unfolding marks
-marks_at z zero [] h = absurd (omega arith)
-marks_at z zero (s ∷ ss) h = refl
-marks_at z (suc i) [] h = absurd (omega arith)
-marks_at z (suc i) (s ∷ ss) h = marks_at z i ss (omega arith)
 
 marks_drop : (z i : ℕ) (ss : List ℕ) → marks z (drop i ss) ≡ drop i (marks z ss)
 unfolding marks
@@ -40,21 +36,16 @@ marks_take : (z i : ℕ) (ss : List ℕ) → marks z (take i ss) ≡ take i (mar
 unfolding marks
 marks_take z i ss = map_take (λ (s : ℕ). eqb (s % 16) z) i ss
 
-marks_end : (z i : ℕ) (ss : List ℕ) → i ≡ length ss → drop i (marks z ss) ≡ []
-marks_end z i ss h = rw (h, ← length_marks z ss, drop-length)
-
 -- ---- whether there is a mark
 
-pub any_more : (found : Bool) (z i : ℕ) (ss : List ℕ) → i < length ss
-    → cond (found || eqb (get_or ss i 0 % 16) z) true (any_of (drop (i + 1) (marks z ss))) ≡ cond found true (any_of (drop i (marks z ss)))
-unfolding any_of
-any_more true z i ss h = refl
-any_more false z i ss h = rw (add-one, marks_at z i ss h)
-
-pub any_end : (found : Bool) (z i : ℕ) (ss : List ℕ) → i ≡ length ss → cond found true (any_of (drop i (marks z ss))) ≡ found
-unfolding any_of
-any_end true z i ss h = refl
-any_end false z i ss h = rw (marks_end z i ss h)
+-- found already, or among these
+pub any_found : (found : Bool) (z : ℕ) (ss : List ℕ)
+    → fold (λ (f : Bool) (s : ℕ). f || eqb (s % 16) z) found ss ≡ cond found true (any_of (marks z ss))
+unfolding any_of marks
+any_found true z [] = refl
+any_found false z [] = refl
+any_found true z (s ∷ ss) = any_found true z ss
+any_found false z (s ∷ ss) = any_found (eqb (s % 16) z) z ss
 
 any_later : (j : ℕ) (bs : List Bool) → any_of bs ≡ false → any_of (drop j bs) ≡ false
 unfolding any_of
@@ -92,25 +83,28 @@ bits_pow (false ∷ bs) = rw (pow-succ' 2 (length bs)) (omega (arith, bits_pow b
 bits_small : (bs : List Bool) → length bs ≤ 16 → bits_of bs < 65536
 bits_small bs h = omega (arith, bits_pow bs, pow_mono h)
 
--- the marks from i on, and the one before
-bits_more : (z i bits : ℕ) (ss : List ℕ) → i < length ss → bits ≡ bits_of (drop (suc i) (marks z ss))
-    → 2 * bits + cond (eqb (get_or ss i 0 % 16) z) 1 0 ≡ bits_of (drop i (marks z ss))
-unfolding bits_of
-bits_more z i bits ss h e = rw (marks_at z i ss h, e)
+marks_small : (z : ℕ) (ss : List ℕ) → length ss ≤ 16 → bits_of (marks z ss) < 65536
+marks_small z ss h = bits_small (marks z ss) (omega (arith, length_marks z ss))
 
-pub bits_before : (z i bits : ℕ) (ss : List ℕ) → 0 < i → i ≤ length ss → bits ≡ bits_of (drop i (marks z ss))
-    → 2 * bits + cond (eqb (get_or ss (i - 1) 0 % 16) z) 1 0 ≡ bits_of (drop (i - 1) (marks z ss))
-bits_before z i bits ss l h e =
-    let q : i ≡ suc (i - 1) = omega arith in
-    bits_more z (i - 1) bits ss (omega arith) (e ∙ ap (λ (j : ℕ). bits_of (drop j (marks z ss))) q)
+bit_more : (b : Bool) (x : ℕ) → x < 65536 → bit_or (x * 2 % 2 ^ 32) (cond b 1 0) ≡ 2 * x + cond b 1 0
+bit_more true x h = or_after_shift x 2 (2 ^ 32) 1 refl (omega arith) (omega arith) ∙ omega arith
+bit_more false x h = or_after_shift x 2 (2 ^ 32) 0 refl (omega arith) (omega arith) ∙ omega arith
 
--- sixteen marks from anywhere on
-pub bits_from : (z i : ℕ) (ss : List ℕ) → length ss ≤ 16 → bits_of (drop i (marks z ss)) < 65536
-bits_from z i ss h = bits_small (drop i (marks z ss)) (omega (arith, length-drop i (marks z ss), length_marks z ss))
+-- the bits of the marks, from the last down
+bits_taken : (z : ℕ) (ss : List ℕ) → length ss ≤ 16
+    → fold (λ (b s : ℕ). bit_or (b * 2 % 2 ^ 32) (cond (eqb (s % 16) z) 1 0)) 0 (reverse ss) ≡ bits_of (marks z ss)
+unfolding bits_of marks
+bits_taken z [] h = refl
+bits_taken z (s ∷ ss) h =
+    let add = λ (b s : ℕ). bit_or (b * 2 % 2 ^ 32) (cond (eqb (s % 16) z) 1 0) in
+    ap (fold add 0) (reverse-append (s ∷ []) ss) ∙ fold-append add 0 (reverse ss) (s ∷ [])
+    ∙ ap (λ (x : ℕ). add x s) (bits_taken z ss (omega arith))
+    ∙ bit_more (eqb (s % 16) z) (bits_of (marks z ss)) (marks_small z ss (omega arith))
 
-pub bits_none : (z i : ℕ) (ss : List ℕ) → i ≡ length ss → 0 ≡ bits_of (drop i (marks z ss))
-unfolding bits_of
-bits_none z i ss h = rw (marks_end z i ss h)
+pub sixteen_taken : (z r : ℕ) (ss : List ℕ) → length ss ≤ 16
+    → r ≡ fold (λ (b s : ℕ). bit_or (b * 2 % 2 ^ 32) (cond (eqb (s % 16) z) 1 0)) 0 (reverse ss)
+    → (r ≡ bits_of (marks z ss)) × (r < 65536)
+sixteen_taken z r ss h e = (e ∙ bits_taken z ss h, omega (arith, e ∙ bits_taken z ss h, marks_small z ss h))
 
 -- a shift drops marks
 bits_drop : (j : ℕ) (bs : List Bool) → bits_of bs / 2 ^ j ≡ bits_of (drop j bs)

@@ -3,9 +3,12 @@ use Prim.Native.Nat.{ℕ, zero, suc, ◌+◌, ◌-◌, ◌*◌, ◌%◌, ◌≤�
 use native.Mathlib.Omega.{arith}
 use native.Mathlib.Decide.{dec_lt}
 use mathlib.Core.Path.{◌≡◌, refl, ap, sym, ◌∙◌}
-use mathlib.Core.Bool.{false}
-use mathlib.Core.List.{List, [], ◌∷◌, ◌++◌}
+use mathlib.Core.Bool.{Bool, true, false, cond}
+use mathlib.Core.List.{List, [], ◌∷◌, ◌++◌, map}
 use borrow.Author.Tests.{ne_eqb}
+use lib.Dec.{ltb}
+use Rattle.std.proofs.lemmas.Bool.{ltb-true, lt-ltb}
+use Rattle.std.specs.List.{fold}
 use lib.ListN.{length, get_or, take, drop, length-drop}
 use lib.Seq.{get_or-take, get_or-drop, length-take-le}
 use Rattle.ranking.specs.Levels.{marks, any_of, level_from, level_keys, Next}
@@ -13,28 +16,41 @@ use Rattle.ranking.proofs.Marking.{any_none}
 
 -- ---- the next level
 
--- y is above z, and of the first i symbols none has a reliability between them
-pub record Nearest (z y i : ℕ) (ss : List ℕ) : Type 0 where
-  pub above : z < y
-  pub most : y ≤ 16
-  pub none : (j : ℕ) → j < i → z < get_or ss j 0 % 16 → y ≤ get_or ss j 0 % 16
+-- a reliability where it is above z, and 16 elsewhere
+abbrev above : ℕ → ℕ → ℕ
+above z s = cond (ltb z (s % 16)) (s % 16) 16
 
--- nothing is passed
-pub nearest_none : (z : ℕ) (ss : List ℕ) → z < 16 → Nearest z 16 0 ss
-nearest_none z ss h = record { above = h; most = omega arith; none = λ j l. absurd (omega arith) }
+-- the least of these, and of one before
+abbrev least : ℕ → ℕ → List ℕ → ℕ
+least z y ss = fold min y (map (above z) ss)
 
--- one symbol more: x is its reliability where that is above z
-pub nearest_more : (z y i x r : ℕ) (ss : List ℕ) → Nearest z y i ss → (z < get_or ss i 0 % 16 → x ≡ get_or ss i 0 % 16) × (get_or ss i 0 % 16 ≤ z → x ≡ 16)
-    → r ≡ min y x → Nearest z r (i + 1) ss
-nearest_more z y i x r ss n e m =
-    record {
-      above = elim (dec_lt z (get_or ss i 0 % 16)) [ yes h ↦ omega (arith, n.above, e.0 h) | no h ↦ omega (arith, n.above, n.most, e.1 (omega arith)) ];
-      most = omega (arith, n.most);
-      none = λ j l h. elim (dec_lt j i) [ yes w ↦ omega (arith, n.none j w h) | no w ↦ last j (omega arith) h ];
-    }
+next_before : (z y : ℕ) (ss : List ℕ) → z < y → y ≤ 16 → (least z y ss ≤ y) × Next z (least z y ss) ss
+next_before z y [] h m = (omega arith, record { above = h; most = m; none = λ i l. absurd (omega arith) })
+next_before z y (s ∷ ss) h m = go (ltb z (s % 16)) refl (λ w l k. next_before z w ss l k)
   where
-    last : (j : ℕ) → j ≡ i → z < get_or ss j 0 % 16 → r ≤ get_or ss j 0 % 16
-    last j q h = rw q (omega (arith, e.0 (rw q at h)))
+    more : (w : ℕ) → (least z w ss ≤ w) × Next z (least z w ss) ss → (z < s % 16 → w ≤ s % 16) → Next z (least z w ss) (s ∷ ss)
+    more w n first = record { above = n.1.above; most = n.1.most; none = each }
+      where
+        each : (i : ℕ) → i < length (s ∷ ss) → z < get_or (s ∷ ss) i 0 % 16 → least z w ss ≤ get_or (s ∷ ss) i 0 % 16
+        each zero l v = omega (arith, n.0, first v)
+        each (suc i) l v = n.1.none i (omega arith) v
+
+    go : (b : Bool) → ltb z (s % 16) ≡ b → ((w : ℕ) → z < w → w ≤ 16 → (least z w ss ≤ w) × Next z (least z w ss) ss)
+        → (least z (min y (cond b (s % 16) 16)) ss ≤ y) × Next z (least z (min y (cond b (s % 16) 16)) ss) (s ∷ ss)
+    go true e others =
+        let l : z < s % 16 = ltb-true z (s % 16) e in
+        let n = others (min y (s % 16)) (omega arith) (omega arith) in
+        (omega (arith, n.0), more (min y (s % 16)) n (λ _. omega arith))
+    go false e others =
+        let n = others (min y 16) (omega arith) (omega arith) in
+        (omega (arith, n.0), more (min y 16) n (λ l. absurd (let q : ◌≡◌ {A = Bool} true false = sym (lt-ltb z (s % 16) l) ∙ e in cc)))
+
+pub next_least : (z : ℕ) (ss : List ℕ) → z < 16 → Next z (fold min 16 (map (above z) ss)) ss
+next_least z ss h = (next_before z 16 ss h (omega arith)).1
+
+-- between a level and the one after it there is none
+pub next_one : (z : ℕ) (ss : List ℕ) → z < 16 → Next z (z + 1) ss
+next_one z ss h = record { above = omega arith; most = omega arith; none = λ i l w. omega arith }
 
 -- of two parts that leave out no symbol of the word, the lower
 pub next_parts : (z y x r a b w : ℕ) (ss : List ℕ) → Next z y (take a ss) → Next z x (take w (drop b ss)) → r ≡ min y x
@@ -89,7 +105,7 @@ unfolding level_keys
 levels_over i ss = rw (level_none 16 i ss (λ j l e. omega arith))
 
 -- the levels above z are those from the next on
-pub levels_next : (z y : ℕ) (ss : List ℕ) → z < 16 → Next z y ss → level_keys (15 - z) (suc z) ss ≡ level_from y 0 ss ++ level_keys (15 - y) (suc y) ss
+levels_next : (z y : ℕ) (ss : List ℕ) → z < 16 → Next z y ss → level_keys (15 - z) (suc z) ss ≡ level_from y 0 ss ++ level_keys (15 - y) (suc y) ss
 unfolding level_keys
 levels_next z y ss h n =
     let e : 15 - z ≡ (y - suc z) + (16 - y) = omega (arith, n.above, n.most) in
@@ -100,3 +116,9 @@ levels_next z y ss h n =
       | yes l ↦ (let g : 16 - y ≡ suc (15 - y) = omega arith in rw g)
       | no l ↦ (let g : y ≡ 16 = omega (arith, n.most) in rw g (sym (levels_over 0 ss)))
     ])
+
+-- where level z has no more keys, the keys to come are those from the next on
+pub level_passed : (z y from : ℕ) (ss ks : List ℕ) → z < 16 → ks ≡ level_from z from ss ++ level_keys (15 - z) (suc z) ss → level_from z from ss ≡ []
+    → Next z y ss → ks ≡ level_from y 0 ss ++ level_keys (15 - y) (suc y) ss
+level_passed z y from ss ks h come none n =
+    come ∙ ap (λ (l : List ℕ). l ++ level_keys (15 - z) (suc z) ss) none ∙ levels_next z y ss h n

@@ -1,6 +1,6 @@
 -- The keys of a word by levels, and how far they are taken. Cited by the contracts of private functions alone. Assumes nothing.
-use Rattle.std.specs.Prelude.{ℕ, zero, suc, ◌+◌, ◌-◌, ◌*◌, ◌/◌, ◌%◌, ◌^◌, ◌≤◌, ◌<◌, ◌≡◌, Bool, true, false, cond, List, [], ◌∷◌, ◌++◌, map, eqb, length, get_or, drop}
-use Rattle.ranking.specs.declared.Cursor.{Cursor}
+use Rattle.std.specs.Prelude.{ℕ, zero, suc, ◌+◌, ◌-◌, ◌*◌, ◌/◌, ◌%◌, ◌≤◌, ◌<◌, ◌≡◌, eqb, Bool, true, false, cond}
+use Rattle.std.specs.Prelude.{List, [], ◌∷◌, ◌++◌, map, length, get_or, drop, Option, MatchOption}
 
 -- which symbols have reliability z
 unfoldable pub marks : ℕ → List ℕ → List Bool
@@ -44,36 +44,19 @@ pub record Next (z y : ℕ) (ss : List ℕ) : Type 0 where
 
 -- ---- how far the keys are taken
 
--- the key behind those of a cursor's bits
-abbrev pub end_of : Cursor → ℕ
-end_of c = c.z * 1024 + c.next
-
--- the keys of its bits
-abbrev pub keys_left : Cursor → List ℕ
-keys_left c = bit_keys (end_of c - c.key) c.left c.key
-
--- the keys still to come
-unfoldable pub to_come : Cursor → List ℕ → List ℕ
+-- the keys still to come: those of the bits `left`, the lowest of which stands for `key`, then of the symbols of reliability z from
+-- position `next` on, and then of the levels above
+unfoldable pub come : ℕ → ℕ → ℕ → ℕ → List ℕ → List ℕ
 unfolding bit_keys level_keys
-to_come c ss = keys_left c ++ level_from c.z c.next ss ++ level_keys (15 - c.z) (suc c.z) ss
+come next left key z ss = bit_keys (z * 1024 + next - key) left key ++ level_from z next ss ++ level_keys (15 - z) (suc z) ss
 
--- a cursor's numbers are small, and it has a bit for at most sixteen keys
-pub record Sound (c : Cursor) : Type 0 where
-  pub level : c.z < 16
-  pub near : c.next ≤ 1040
-  pub begun : c.key ≤ end_of c
-  pub few : end_of c ≤ c.key + 16
-  pub bits : c.left < 2 ^ (end_of c - c.key)
+-- from position i on are the first sixteen symbols among which, of those from `from` on, there is one of level z, and these are their bits
+pub record Found (z from : ℕ) (ss : List ℕ) (i bits : ℕ) : Type 0 where
+  pub within : i < length ss
+  pub some : 0 < bits
+  pub small : bits < 65536
+  pub same : level_from z from ss ≡ bit_keys 16 bits (z * 1024 + i) ++ level_from z (i + 16) ss
 
--- c is at the first symbols of level z from position i on
-pub record Sought (z i : ℕ) (ss : List ℕ) (c : Cursor) : Type 0 where
-  pub sound : Sound c
-  pub level : c.z ≡ z
-  pub same : level_from z i ss ≡ keys_left c ++ level_from z c.next ss
-  pub none : c.left ≡ 0 → level_from z i ss ≡ []
-
--- d is c behind its next key
-pub record Stepped (c d : Cursor) : Type 0 where
-  pub sound : Sound d
-  pub later : 1 ≤ d.key
-  pub taken : (ss : List ℕ) → to_come c ss ≡ (d.key - 1) ∷ to_come d ss
+-- these are the first such symbols, or there are none
+abbrev pub Sought : ℕ → ℕ → List ℕ → Option (ℕ × ℕ) → Type 0
+Sought z from ss r = MatchOption r (level_from z from ss ≡ []) (λ p. Found z from ss p.0 p.1)

@@ -1,2 +1,3 @@
 pub mod Weakest
 pub mod Levels
+pub mod Cursors

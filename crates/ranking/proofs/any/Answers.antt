@@ -1,20 +1,14 @@
--- What is found, and the marks still to come, tell whether there is one. Assumes nothing.
-use mathlib.Core.Path.{refl, sym, ◌∙◌}
-use native.Mathlib.Omega.{arith}
-use Rattle.ranking.proofs.Marking.{any_more, any_end}
+-- What is found after all sixteen tells whether there is one. Assumes nothing.
+use Rattle.std.proofs.Common.{arith, ◌≡◌, ◌∙◌, ap, ℕ, ◌%◌, Bool, false, nat_eq}
+use Rattle.std.proofs.lemmas.Grind.{common_steps}
+use Rattle.std.specs.List.{fold}
+use mathlib.Core.Bool.{◌||◌}
+use Rattle.ranking.proofs.Marking.{any_found}
 use Rattle.ranking.proofs.any.Goals as goal
-
-pub loop-i-init : goal.loop-i-init
-loop-i-init c = (omega arith, refl)
-
-pub loop-i-preserved : goal.loop-i-preserved
-loop-i-preserved c =
-    let l = c.loop-i in
-    let a = c.args in
-    (omega arith, any_more l.found a.z l.i a.s.now (omega (arith, c.requires)) ∙ l.invariant.1)
 
 pub returns : goal.returns
 returns c =
-    let l = c.loop-i in
     let a = c.args in
-    sym (any_end l.found a.z l.i a.s.now (omega (arith, c.requires))) ∙ l.invariant.1
+    let add = λ (f : Bool) (s : ℕ). f || nat_eq (s % 16) a.z in
+    let e : c.fold.result ≡ fold add false c.iter.result.rest.now = grind (arith, common_steps) in
+    e ∙ ap (fold add false) c.iter.ensures.rest ∙ any_found false a.z a.s.now

@@ -17,7 +17,7 @@ returns-then-n-lt16 c =
 pub returns : goal.returns
 returns c =
     let a = c.args in
-    let at = c.least-at in
+    let at = c.min-at in
     let e : c.which_if_any.result / 2 ^ (a.i - at.result) ≡ bits_of (take 16 (drop a.i (marks a.z a.s.now)))
     = ap (λ (x : ℕ). x / 2 ^ (a.i - at.result)) c.which_if_any.ensures
     ∙ sixteen_last a.z a.i at.result a.s.now (omega (arith, c.if-n-lt16.false)) at.ensures in
