@@ -1,1 +1,1 @@
-pub mod Refusing
+pub mod Moving
