@@ -16,8 +16,8 @@ use Rattle.chase.proofs.weighing.Bounded.{BoundedAnswer}
 use Rattle.take_format.specs.Refusal.{Refusal}
 use Rattle.take_format.specs.Batch.{Totals}
 use Rattle.listing.specs.Text.{ascii, decimal, signed, mark_name, bits_text, message_text, line, word_line, totals_line, refusal_line}
-use Rattle.listing.specs.declared.take.Mark.{Mark as Marked}
-use Rattle.listing.specs.declared.take.Mark.TheVariants.{Lost, Fair, Sure}
+use Rattle.receiver.specs.declared.Mark.{Mark as Marked}
+use Rattle.receiver.specs.declared.Mark.TheVariants.{Lost, Fair, Sure}
 use Rattle.listing.specs.declared.take.Shown.{Shown}
 use Rattle.listing.specs.Shown.{mark_of, Shows}
 use Rattle.listing.proofs.Decimals.{decimal_lem, signed_lem, decimal_long}

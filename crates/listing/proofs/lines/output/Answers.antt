@@ -2,7 +2,7 @@
 use Rattle.std.proofs.Common.{◌≡◌, ◌≤◌, List, ℕ, ◌++◌, ap, sym, subst, ◌∙◌, arith, rules, length, inl, inr}
 use lib.ListN.{length-append}
 use Rattle.take_format.specs.Take.{open_answer, totals}
-use Rattle.refusal.specs.Checked.{refusal_of}
+use Rattle.refusal.specs.Checked.{refusal_of, answer_of}
 use Rattle.receiver.specs.Answer.{totals_told}
 use Rattle.takes.specs.Answer.{header_of}
 use Rattle.listing.specs.Text.{ascii, line, too_long, word_line, totals_line}
@@ -46,13 +46,13 @@ returns-in-Ok-clause-upper_bound c =
     )
 
 pub returns-in-Err-clause-text : goal.returns-in-Err-clause-text
-unfolding opened_of
+unfolding answer_of
 returns-in-Err-clause-text c =
     let e : open_answer c.args.input.now ≡ inl (refusal_of c.in-Err.r) = sym c.open.ensures.answer ∙ ap opened_of c.in-Err.is in
     said c.refused.ensures (refused_input c.args.input.now c.if-input-gt65536.false (refusal_of c.in-Err.r) e)
 
 pub returns-in-Err-clause-upper_bound : goal.returns-in-Err-clause-upper_bound
-unfolding opened_of
+unfolding answer_of
 returns-in-Err-clause-upper_bound c =
     let e : open_answer c.args.input.now ≡ inl (refusal_of c.in-Err.r) = sym c.open.ensures.answer ∙ ap opened_of c.in-Err.is in
     omega (

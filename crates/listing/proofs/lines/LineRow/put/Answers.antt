@@ -19,7 +19,7 @@ returns c = λ a s b.
     let m = c.args.message.now in
     let fits : SFits w32 c.args.shown.margin = search rules in
     let margin = said c.number-3.ensures (ap (λ (z : ℤ). field (signed_decimal z) 32) (to_z-of_z fits)) in
-    let numbers = then (then (then (then (then c.number.ensures (said c.characters.ensures c.name.ensures)) c.character.ensures) c.number-2.ensures) margin) c.number-4.ensures in
+    let numbers = then (then (then (then (then c.number.ensures (said c.characters.ensures c.name_of.ensures)) c.character.ensures) c.number-2.ensures) margin) c.number-4.ensures in
     let end : (piece : List ℕ) → Written c.number-4.new.self piece c.match-shown.text → piece ≡ message_text (mark_of c.args.shown.mark) m
         → Written c.args.text.now (word_line i a m) c.character-2.new.self =
         λ piece p e. said (then (then numbers p) c.character-2.ensures) (word_text i c.args.shown a m piece s (omega arith) (omega arith) (margin_small _ fits) (omega arith) e) in
