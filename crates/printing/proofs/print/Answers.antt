@@ -1,6 +1,7 @@
 -- What is refused or too long is left to the listing; the strip of a take has room in the buffer. Assumes nothing.
 use Rattle.std.proofs.Common.{rules, arith, ap, sym, ◌∙◌, inr, length, ◌≤◌, ◌≡◌}
 use Rattle.take_format.specs.Take.{open_answer}
+use Rattle.refusal.specs.Checked.{answer_of}
 use Rattle.takes.specs.Answer.{header_of}
 use Rattle.listing.specs.Rows.{opened_of}
 use Rattle.listing.specs.Takelist.{over}
@@ -17,7 +18,7 @@ returns-then-input-gt65536 c =
     record { value = f.0; text = f.1.0; upper_bound = f.1.1 }
 
 pub returns-in-Err : goal.returns-in-Err
-unfolding opened_of
+unfolding answer_of
 returns-in-Err c =
     let bs = c.args.input.now in
     let e = sym (ap opened_of c.in-Err.is) ∙ c.open.ensures.answer in
@@ -26,7 +27,7 @@ returns-in-Err c =
     record { value = f.0; text = f.1.0; upper_bound = f.1.1 }
 
 pub returns-in-Ok : goal.returns-in-Ok
-unfolding opened_of
+unfolding answer_of
 returns-in-Ok c =
     let bs = c.args.input.now in
     let t = c.new-out in

@@ -15,7 +15,7 @@ pub returns : goal.returns
 returns c = λ a s b.
     let i = c.args.index in
     let fits : SFits w32 c.args.shown.margin = search rules in
-    let mark = said c.field.ensures (ap (λ (t : List ℕ). field 4 t 32) c.name.ensures) in
+    let mark = said c.field.ensures (ap (λ (t : List ℕ). field 4 t 32) c.name_of.ensures) in
     let margin = said c.number-3.ensures (ap (λ (z : ℤ). field 5 (signed_decimal z) 32) (to_z-of_z fits)) in
     said (then (then (then (then (then c.page.ensures c.number.ensures) mark) c.number-2.ensures) margin) c.number-4.ensures)
     (row_text (heading_at i) i c.args.shown a s (omega arith) (omega arith) (margin_small _ fits) (omega arith))
