@@ -4,3 +4,4 @@ pub mod Margins
 pub mod Placed
 pub mod Places
 pub mod Powers
+pub mod Repairing
