@@ -1,3 +1,4 @@
+pub mod Called
 pub mod HighBits
 pub mod Locating
 pub mod Margins
