@@ -77,6 +77,7 @@ pub fn flip_at(out: &mut [u8], from: usize, f: &Flips)
 }
 
 // The bits flipped at the positions that the hard stage flips, where it does; and these in its answer.
+#[tactic(auto, using(crate::proofs::Repairing::answers))]
 fn write(c: Code, f: Option<Flips>, bits: &[u8], codeword: &mut [u8]) -> Option<Flips>
     requires bits_len { (length bits.now ≡ c.n) × (length codeword.old ≡ c.n) × Bits bits.now }
     requires repairs { Repaired c bits.now f }
