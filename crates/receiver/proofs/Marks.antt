@@ -1,8 +1,7 @@
 -- The mark, the tries and the word of a word's answer, by the outcome that it stands for or by its case. Assumes nothing.
 use Prim.Native.Nat.{ℕ}
-use native.Mathlib.Omega.{arith}
-use mathlib.Core.Path.{◌≡◌, refl, ap}
-use mathlib.Core.Logic.{◌⊎◌, ◌≢◌, inl, inr}
+use mathlib.Core.Path.{◌≡◌, refl}
+use mathlib.Core.Logic.{◌≢◌, inr}
 use mathlib.Core.List.{List, []}
 use denote.Enum.Bare.{sameb}
 use denote.Enum.Declared.{tag_of}
@@ -11,7 +10,6 @@ use lib.ListN.{drop}
 use Rattle.std.specs.Prelude.{Result, Ok, Err}
 use Rattle.chase.specs.Soft.{Answer, Mark as Told, lost, fair, sure, answer, lost_answer}
 use Rattle.take_format.specs.Batch.{mark_byte, Totals, counted_of, capped, counted_answer}
-use Rattle.take_format.specs.Refusal as take_format
 use Rattle.refusal.specs.Checked.{answer_of}
 use Rattle.refusal.specs.declared.Refusal.{Refusal}
 use Rattle.receiver.specs.Answer.{found_of, soft_of, byte_of}
@@ -20,7 +18,6 @@ use Rattle.receiver.specs.contracts.Mark.{the_type}
 use Rattle.receiver.specs.declared.Mark as declared
 use Rattle.receiver.specs.declared.Mark.TheVariants as Mark
 use Rattle.receiver.specs.declared.search.Best.{Best}
-use Rattle.receiver.specs.declared.search.Best.TheVariants as Best
 use Rattle.receiver.specs.declared.Soft.{Soft}
 use Rattle.receiver.specs.declared.Soft.TheVariants.{Lost, Fair, Sure}
 

@@ -1,6 +1,5 @@
 -- What the receiver's answers mean, in document 01's numbers. Assumes nothing.
 use Rattle.std.specs.Prelude.{ℕ, ◌⊎◌, List, [], Result, Ok, Err, Option as Rust·Option, Some, None}
-use Rattle.std.proofs.Common.{inl, inr}
 use Rattle.chase.specs.Soft.{Answer, Mark, fair, sure, lost_answer}
 use Rattle.take_format.specs.Calls.{HardAnswer, refused, lost, found, flipped_in}
 use Rattle.take_format.specs.Refusal as take_format

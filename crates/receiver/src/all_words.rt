@@ -29,7 +29,8 @@ fn decode_word(tables: &Tables, p: usize, s: &[u8], message: &mut [u8]) -> Outco
     o
 }
 
-// All words, one after the other: as many as there are marks.
+// All words, one after the other: as many as there are marks. (Each word's part is cut by its place: a proof knows no byte that is written
+// through `chunks_exact_mut`.)
 fn decode_all(
     tables: &Tables,
     p: usize,

@@ -22,7 +22,7 @@ use crate::tables::{self, Field, Tables};
 use crate::{Found, Soft, hard_stage};
 use refusal::Code;
 
-// The hard bits of the symbols from `from` on.
+// The hard bits of the symbols from `from` on. (By their place: under a `zip` a proof knows no byte that is written through `iter_mut`.)
 fn write_bits(s: &[u8], from: usize, out: &mut [u8])
     requires { from + length out.old ≡ length s.now }
     ensures { out.new ≡ drop from (hard_bits s.now) }

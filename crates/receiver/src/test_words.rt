@@ -29,7 +29,8 @@ fn flip_of(key: u16) -> u64
     (65536 + u64::from(least_keys::held(key))) * 4294967296
 }
 
-// As many test words again, which flip the position of one key more.
+// As many test words again, which flip the position of one key more. (By their place: under a `zip` a proof knows no number that is written
+// through `iter_mut`.)
 pub fn double(field: &Field, key: u16, size: usize, tests: &mut [u64])
     requires placed { key % 1024 < field.now.code.n }
     requires size_in_bounds { (2 * size ≤ length tests.old) × Small 576460752303423488 size tests.old }

@@ -65,9 +65,11 @@ returns c =
     let (ok, e) = named_code c.in_ok-c.c (words_refusal w p W ss ms ks) w c.in_ok-c.ensures in
     let many = (words_accepted w p W ss ms ks ok).1.marks_room in
     let all = answers_to w p W ss in
-    let same : (f : Code → List Answer → List ℕ) → f (code_of c.in_ok-c.c) (answers_to (code_of c.in_ok-c.c) p (length ks) ss) ≡ f w all = λ f.
+    let same : (f : Code → List Answer → List ℕ) → f (code_of c.in_ok-c.c) (answers_to (code_of c.in_ok-c.c) p (length ks) ss) ≡ f w all
+    = λ f.
     ap (λ (k : struct.Code). f (code_of k) (answers_to (code_of k) p (length ks) ss)) e ∙ ap (λ (n : ℕ). f w (answers_to w p n ss)) many in
-    let totals = ap (λ (k : struct.Code). totals_of (answers_to (code_of k) p (length ks) ss)) e ∙ ap (λ (n : ℕ). totals_of (answers_to w p n ss)) many in
+    let totals =
+    ap (λ (k : struct.Code). totals_of (answers_to (code_of k) p (length ks) ss)) e ∙ ap (λ (n : ℕ). totals_of (answers_to w p n ss)) many in
     let d = c.decode.ensures in
     record {
       answer = ap inr (d.answer ∙ totals) ∙ answered_none _ (totals_of all) ok;

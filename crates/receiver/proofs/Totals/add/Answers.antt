@@ -18,8 +18,8 @@ one_if true = refl
 one_if false = refl
 
 -- a mark's total grows by 1 where the word has the mark
-grows : (total new bit : ℕ) (is : Bool) (m a : Mark) → is ≡ sameb the_type m a → bit ≡ bool_byte is → new ≡ min (total + bit) (2 ^ 64 - 1)
-    → new ≡ min (total + cond (eqb (byte_of a) (byte_of m)) 1 0) (2 ^ 64 - 1)
+grows : (total new bit : ℕ) (is : Bool) (m a : Mark) → is ≡ sameb the_type m a → bit ≡ bool_byte is
+    → new ≡ min (total + bit) (2 ^ 64 - 1) → new ≡ min (total + cond (eqb (byte_of a) (byte_of m)) 1 0) (2 ^ 64 - 1)
 grows total new bit is m a e f g =
     g ∙ ap (λ (n : ℕ). min (total + n) (2 ^ 64 - 1)) (f ∙ one_if is ∙ ap (λ (b : Bool). cond b 1 0) (e ∙ same_mark m a))
 

@@ -47,7 +47,8 @@ begins : (w W k : ℕ) {to M : ℕ} → w < W → to ≡ w * k → M ≡ W * k �
 begins w W k h e f = omega (arith, room w W k h)
 
 -- as many numbers from there on as are read for word w
-inside : (w W n size : ℕ) (xs : List ℕ) → w < W → size ≡ n → length xs ≡ W * n → length (take (w * size + size - w * size) (drop (w * size) xs)) ≡ n
+inside : (w W n size : ℕ) (xs : List ℕ) → w < W → size ≡ n → length xs ≡ W * n
+    → length (take (w * size + size - w * size) (drop (w * size) xs)) ≡ n
 inside w W n size xs h e l =
     ap length (same-part w n size xs e) ∙ omega (arith, l, room w W n h, length-take n (drop (w * n) xs), length-drop (w * n) xs)
 
@@ -68,9 +69,11 @@ pub decode_word-o-requires : goal.decode_word-o-requires
 decode_word-o-requires c =
     let l = c.loop-w in
     let ok = c.requires.words_checked in
-    let k : (code_in c.args.tables.now).k ≡ message_length (code_of (code_in c.args.tables.now)) = omega (arith, c.args.tables.now.filled.fielded.made.is_n) in
+    let code = code_in c.args.tables.now in
+    let k : code.k ≡ message_length (code_of code) = omega (arith, c.args.tables.now.filled.fielded.made.is_n) in
     let part = word ok c.loop-w-test.true c.length-n.result c.length-n.ensures in
-    let there = inside l.w _ _ c.message_length-k.result l.messages c.loop-w-test.true (c.message_length-k.ensures ∙ k) (omega (arith, ok.messages_room)) in
+    let there =
+    inside l.w _ _ c.message_length-k.result l.messages c.loop-w-test.true (c.message_length-k.ensures ∙ k) (omega (arith, ok.messages_room)) in
     (ok.depth, part.0, part.1, there ∙ sym k)
 
 pub loop-w-preserved : goal.loop-w-preserved
@@ -94,7 +97,8 @@ loop-w-preserved c =
     let tried = tries_most code made.lawful fits a.p ss part.0 part.1 in
     let counted = counted_of (totals_told l.totals) (byte_of m.result) w.result.tries in
     let few =
-    few_more l.w (totals_told l.totals) l.invariant.1 (byte_of m.result) w.result.tries (at_most _ _ _ w.ensures.answer.1 tried (pow_mono ok.depth)) in
+    few_more l.w (totals_told l.totals) l.invariant.1 (byte_of m.result) w.result.tries
+    (at_most _ _ _ w.ensures.answer.1 tried (pow_mono ok.depth)) in
     let told : totals_told c.add-totals.result ≡ counted =
     c.add-totals.ensures ∙ few_capped (l.w + 1) counted few (words-few _ _ h c.requires.few) in
     let written = ap length w.ensures.message ∙ message_long code made.lawful fits a.p ss part.0 part.1 in

@@ -1,5 +1,5 @@
 -- The message is that of the answer's codeword, or 0. Assumes nothing.
-use Prim.Native.Nat.{ℕ, ◌+◌, ◌-◌, ◌≤◌}
+use Prim.Native.Nat.{ℕ, ◌+◌, ◌-◌}
 use native.Mathlib.Omega.{arith}
 use mathlib.Core.Path.{◌≡◌, ap, sym, ◌∙◌}
 use borrow.Author.Tests.{eqb-true, eqb-false}
@@ -35,7 +35,7 @@ returns-then-eq-clause-message c =
     let lost = sym told.0 ∙ sym (ap byte_of c.mark.ensures) ∙ sym zero in
     let long : length d.new.out ≡ message_length b = omega (arith, c.requires.3, a.tables.now.filled.fielded.made.is_n) in
     let filled : c.fill.new.self ≡ replicate (length d.new.out) 0 = grind (arith, common_steps) in
-    filled ∙ ap (λ (k : ℕ). replicate k 0) long ∙ sym (message_lost b stage lost)
+    cc (message_lost b stage lost)
 
 pub returns-else-eq-clause-answer : goal.returns-else-eq-clause-answer
 returns-else-eq-clause-answer c =
@@ -51,6 +51,8 @@ returns-else-eq-clause-message c =
     let n = c.length in
     let k = c.message_length in
     let found : mark_byte stage.mark ≢ 0 =
-    λ z. eqb-false 0 _ (sym (same_mark c.mark.result Lost) ∙ sym c.eq.ensures ∙ c.if-eq.false) (sym (ap byte_of c.mark.ensures ∙ told.0 ∙ z)) in
+    λ z. eqb-false 0 _ (sym (same_mark c.mark.result Lost) ∙ sym c.eq.ensures ∙ c.if-eq.false)
+    (sym (ap byte_of c.mark.ensures ∙ told.0 ∙ z)) in
     let from : n.result - k.result ≡ parity_length b = parity-long _ _ _ _ _ n.ensures k.ensures a.tables.now.filled.fielded.made.is_n in
-    d.ensures.out ∙ word_written (n.result - k.result) stage _ found ∙ ap (λ (x : ℕ). drop x stage.word) from ∙ sym (message_found b stage found)
+    d.ensures.out ∙ word_written (n.result - k.result) stage _ found ∙ ap (λ (x : ℕ). drop x stage.word) from
+    ∙ sym (message_found b stage found)

@@ -1,9 +1,9 @@
 -- The bits are the hard bits of their symbols. Assumes nothing.
-use Prim.Native.Nat.{ℕ, ◌-◌, ◌/◌}
+use Prim.Native.Nat.{ℕ, ◌/◌}
 use native.Mathlib.Omega.{arith}
 use mathlib.Core.Path.{ap, ◌∙◌}
 use Rattle.std.proofs.Common.{get_or-drop}
-use lib.ListN.{get_or, drop}
+use lib.ListN.{drop}
 use lib.Seq.{get_or-take}
 use Rattle.chase.proofs.test_words.TestWords.{hard_filled}
 use Rattle.receiver.proofs.soft_stage.write_bits.Goals as goal

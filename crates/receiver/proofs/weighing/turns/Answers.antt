@@ -3,9 +3,7 @@ use Prim.Native.Nat.{◌%◌}
 use mathlib.Core.Path.{◌≡◌, refl, ap, ◌∙◌}
 use mathlib.Core.Bool.{Bool, true, false, not, beq}
 use lib.Dec.{eqb}
-use Rattle.bch.specs.Words.{is_in}
 use Rattle.chase.proofs.ranking.Allowances.{turned}
-use Rattle.receiver.specs.Located.{flips_of}
 use Rattle.receiver.proofs.weighing.turns.Goals as goal
 
 turned-is : (a b : Bool) → not (beq a b) ≡ turned a b

@@ -1,5 +1,5 @@
 -- What is left of the sum, with what is added already, is the whole sum. Assumes nothing.
-use Prim.Native.Nat.{ℕ, ◌+◌, ◌-◌, ◌/◌, ◌%◌, ◌≤◌, ◌<◌}
+use Prim.Native.Nat.{ℕ, ◌+◌, ◌-◌, ◌/◌, ◌%◌, ◌<◌}
 use native.Mathlib.Omega.{arith}
 use mathlib.Core.Path.{◌≡◌, ap, sym, ◌∙◌}
 use mathlib.Core.Bool.{true, false}
@@ -49,7 +49,9 @@ pub overflow_add-sum : goal.overflow_add-sum
 overflow_add-sum c =
     let word = c.args.self.now in
     let l = c.loop-key in
-    let road = YieldsList-from_take {s = c.into_iter-key-iterator.result} word.d (YieldsList-from_chain (YieldsList-from_slice word.keys.at (cc)) (YieldsList-from_slice word.keys.more (cc)) (cc) (cc)) (cc) in
+    let road =
+    YieldsList-from_take {s = c.into_iter-key-iterator.result} word.d
+    (YieldsList-from_chain (YieldsList-from_slice word.keys.at (cc)) (YieldsList-from_slice word.keys.more (cc)) (cc) (cc)) (cc) in
     let t = YieldsList-turn road l.yielded _ l.yielded_by _ _ c.in-Some.key c.in-Some.is c.next.ensures.steps in
     omega (arith, t.0, length-take word.d (word.keys.at ++ word.keys.more), length-append word.keys.at word.keys.more, c.held-sum.ensures.1)
 
@@ -60,7 +62,9 @@ loop-key-preserved c =
     let P = flips_of c.args.f.now in
     let ks = take word.d (word.keys.at ++ word.keys.more) in
     let k = length l.yielded in
-    let road = YieldsList-from_take {s = c.into_iter-key-iterator.result} word.d (YieldsList-from_chain (YieldsList-from_slice word.keys.at (cc)) (YieldsList-from_slice word.keys.more (cc)) (cc) (cc)) (cc) in
+    let road =
+    YieldsList-from_take {s = c.into_iter-key-iterator.result} word.d
+    (YieldsList-from_chain (YieldsList-from_slice word.keys.at (cc)) (YieldsList-from_slice word.keys.more (cc)) (cc) (cc)) (cc) in
     let t = YieldsList-turn road l.yielded _ l.yielded_by _ _ c.in-Some.key c.in-Some.is c.next.ensures.steps in
     let e = rw c.place_of.ensures at c.turns.ensures in
     rw length_push (elim c.if-not-turns.branch [
@@ -82,6 +86,8 @@ returns c =
     let word = c.args.self.now in
     let l = c.loop-key in
     let ks = take word.d (word.keys.at ++ word.keys.more) in
-    let road = YieldsList-from_take {s = c.into_iter-key-iterator.result} word.d (YieldsList-from_chain (YieldsList-from_slice word.keys.at (cc)) (YieldsList-from_slice word.keys.more (cc)) (cc) (cc)) (cc) in
+    let road =
+    YieldsList-from_take {s = c.into_iter-key-iterator.result} word.d
+    (YieldsList-from_chain (YieldsList-from_slice word.keys.at (cc)) (YieldsList-from_slice word.keys.more (cc)) (cc) (cc)) (cc) in
     let t = YieldsList-end road l.yielded _ l.yielded_by _ _ c.in-None.is c.next.ensures.steps in
     omega (arith, l.invariant.1, sum_end (flips_of c.args.f.now) l.r (word.d - l.full) (length l.yielded) ks t.1)

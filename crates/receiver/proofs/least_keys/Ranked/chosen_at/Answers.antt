@@ -1,7 +1,7 @@
 -- The positions that j flips are gone through one after the other. Assumes nothing.
 use Prim.Native.Nat.{ℕ, ◌%◌, ◌<◌}
 use native.Mathlib.Omega.{arith}
-use mathlib.Core.Path.{◌≡◌, refl, ap, sym, ◌∙◌}
+use mathlib.Core.Path.{◌≡◌, ap, sym, ◌∙◌}
 use mathlib.Core.List.{List}
 use lib.ListN.{length, get_or, take, length-map, get_or-map}
 use Rattle.bch.specs.Words.{is_in}
@@ -36,7 +36,8 @@ loop-key-preserved c =
     let h : k < length ws = omega (arith, long ks p) in
     elim c.else-r-eq1.branch [
       | else-r-eq1-via-then-r-eq1+else-place_of-x w ↦
-          sym (chosen_miss l.r k ws h c.args.x w.if-r-eq1.true (λ q. w.if-place_of-x.false (w.place_of.ensures ∙ sym (at ks p k) ∙ q))) ∙ l.invariant
+          let other = λ (q : get_or ws k 0 ≡ c.args.x). w.if-place_of-x.false (w.place_of.ensures ∙ sym (at ks p k) ∙ q) in
+          sym (chosen_miss l.r k ws h c.args.x w.if-r-eq1.true other) ∙ l.invariant
       | else-r-eq1-via-else-r-eq1 w ↦ sym (ap (is_in c.args.x) (chosen_past l.r k ws h w.if-r-eq1.false)) ∙ l.invariant
     ]
 

@@ -1,8 +1,7 @@
 -- A position that is stronger than the last weak one is not flipped. Assumes nothing.
 use Prim.Native.Nat.{ℕ, ◌-◌, ◌/◌, ◌<◌}
 use native.Mathlib.Omega.{arith}
-use mathlib.Core.Path.{◌≡◌, ap, sym, ◌∙◌}
-use mathlib.Core.Bool.{false}
+use mathlib.Core.Path.{ap, sym, ◌∙◌}
 use lib.ListN.{get_or}
 use Rattle.bch.specs.Words.{is_in}
 use Rattle.chase.specs.Soft.{reliabilities}

@@ -57,31 +57,36 @@ z_at-z-requires c = distinct_at _ _ _ c.requires.distinct c.loop-x-test.true
 pub overflow_sub-q : goal.overflow_sub-q
 overflow_sub-q c =
     let s =
-    step c.args.f.now c.args.self.now.deep.ready (omega arith) c.requires.distinct c.loop-x-test.true c.loop-x.invariant c.z_at-z.ensures.0 c.flipped.ensures in
+    step c.args.f.now c.args.self.now.deep.ready (omega arith) c.requires.distinct c.loop-x-test.true c.loop-x.invariant
+    c.z_at-z.ensures.0 c.flipped.ensures in
     (s.back c.if-flipped.true).0
 
 pub overflow_sub-sum : goal.overflow_sub-sum
 overflow_sub-sum c =
     let s =
-    step c.args.f.now c.args.self.now.deep.ready (omega arith) c.requires.distinct c.loop-x-test.true c.loop-x.invariant c.z_at-z.ensures.0 c.flipped.ensures in
+    step c.args.f.now c.args.self.now.deep.ready (omega arith) c.requires.distinct c.loop-x-test.true c.loop-x.invariant
+    c.z_at-z.ensures.0 c.flipped.ensures in
     (s.back c.if-flipped.true).1
 
 pub overflow_add-q : goal.overflow_add-q
 overflow_add-q c =
     let s =
-    step c.args.f.now c.args.self.now.deep.ready (omega arith) c.requires.distinct c.loop-x-test.true c.loop-x.invariant c.z_at-z.ensures.0 c.flipped.ensures in
+    step c.args.f.now c.args.self.now.deep.ready (omega arith) c.requires.distinct c.loop-x-test.true c.loop-x.invariant
+    c.z_at-z.ensures.0 c.flipped.ensures in
     omega (arith, s.q-most)
 
 pub overflow_add-sum : goal.overflow_add-sum
 overflow_add-sum c =
     let s =
-    step c.args.f.now c.args.self.now.deep.ready (omega arith) c.requires.distinct c.loop-x-test.true c.loop-x.invariant c.z_at-z.ensures.0 c.flipped.ensures in
+    step c.args.f.now c.args.self.now.deep.ready (omega arith) c.requires.distinct c.loop-x-test.true c.loop-x.invariant
+    c.z_at-z.ensures.0 c.flipped.ensures in
     omega (arith, s.sum-most, c.z_at-z.ensures.1)
 
 pub loop-x-preserved : goal.loop-x-preserved
 loop-x-preserved c =
     let s =
-    step c.args.f.now c.args.self.now.deep.ready (omega arith) c.requires.distinct c.loop-x-test.true c.loop-x.invariant c.z_at-z.ensures.0 c.flipped.ensures in
+    step c.args.f.now c.args.self.now.deep.ready (omega arith) c.requires.distinct c.loop-x-test.true c.loop-x.invariant
+    c.z_at-z.ensures.0 c.flipped.ensures in
     elim c.if-flipped.branch [
       | then-flipped w ↦ rw (w.q-is, w.sum-is) ((s.back w.if-flipped.true).2)
       | else-flipped w ↦ rw (w.q-is, w.sum-is) (s.out w.if-flipped.false)
