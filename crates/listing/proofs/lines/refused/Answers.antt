@@ -1,5 +1,4 @@
 -- The fields one behind the other. Assumes nothing.
-use Rattle.std.proofs.Common.{arith}
 use Rattle.refusal.specs.Checked.{refusal_of}
 use Rattle.listing.specs.Text.{ascii}
 use Rattle.listing.proofs.Texts.{then, said}
@@ -9,4 +8,4 @@ use Rattle.listing.proofs.lines.refused.Goals as goal
 pub returns : goal.returns
 unfolding ascii
 returns c =
-    said (then (then c.characters.ensures c.number.ensures) c.number-2.ensures) (refusal_text (refusal_of c.args.r) (omega arith) (omega arith))
+    said (then (then c.characters.ensures c.number.ensures) c.number-2.ensures) (refusal_text (refusal_of c.args.r))
