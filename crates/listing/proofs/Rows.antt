@@ -24,41 +24,24 @@ use Rattle.listing.proofs.Decimals.{decimal_lem, signed_lem, decimal_long}
 
 -- ---- the fields that the code writes
 
--- a number and the character behind it
+-- a text and the character behind it
 abbrev pub field : List ℕ → ℕ → List ℕ
-field digits c = digits ++ (c ∷ [])
+field text c = text ++ (c ∷ [])
 
 two_fields : (name a b : List ℕ) → (name ++ field a 32) ++ field b 10 ≡ name ++ (a ++ (32 ∷ (b ++ (10 ∷ []))))
 two_fields name a b = simp append_assoc
 
 -- a refusal
-pub refusal_text : (r : Refusal) → r.number < 2 ^ 64 → r.place < 2 ^ 64
-    → (ascii "refused " ++ field (std-decimal r.number) 32) ++ field (std-decimal r.place) 10 ≡ refusal_line r
+pub refusal_text : (r : Refusal) → (ascii "refused " ++ field (decimal r.number) 32) ++ field (decimal r.place) 10 ≡ refusal_line r
 unfolding refusal_line line ascii
-refusal_text r n p =
-    rw (decimal_lem r.number n, decimal_lem r.place p) (two_fields (ascii "refused ") (decimal r.number) (decimal r.place))
+refusal_text r = two_fields (ascii "refused ") (decimal r.number) (decimal r.place)
 
--- totals that a machine holds
-pub record Held (k : Totals) : Type 0 where
-  pub words : k.words < 2 ^ 64
-  pub sures : k.sures < 2 ^ 64
-  pub fairs : k.fairs < 2 ^ 64
-  pub losts : k.losts < 2 ^ 64
-  pub tries : k.tries < 2 ^ 64
-
-pub totals_text : (k : Totals) → Held k
-    → (((field (std-decimal k.words) 32 ++ field (std-decimal k.sures) 32) ++ field (std-decimal k.fairs) 32) ++ field (std-decimal k.losts) 32)
-    ++ field (std-decimal k.tries) 10
+-- totals
+pub totals_text : (k : Totals)
+    → (((field (decimal k.words) 32 ++ field (decimal k.sures) 32) ++ field (decimal k.fairs) 32) ++ field (decimal k.losts) 32) ++ field (decimal k.tries) 10
     ≡ totals_line k
 unfolding totals_line line
-totals_text k h =
-    rw (
-      decimal_lem k.words h.words,
-      decimal_lem k.sures h.sures,
-      decimal_lem k.fairs h.fairs,
-      decimal_lem k.losts h.losts,
-      decimal_lem k.tries h.tries,
-    ) (simp append_assoc)
+totals_text k = simp append_assoc
 
 -- a margin of 32 bits is small
 pub margin_small : (z : ℤ) → SFits w32 z → mag z < 2 ^ 63
@@ -66,24 +49,12 @@ margin_small (pos n) f = let l : n < 2 ^ 63 = omega (arith, f.sfits) in l
 margin_small (negsuc n) f = let l : n < 2 ^ 63 = omega (arith, f.sfits) in l
 
 -- a word
-pub word_text : (i : ℕ) (s : Shown) (a : Answer) (bits piece : List ℕ) → Shows s a → i < 2 ^ 64 → s.distance < 2 ^ 64 → mag s.margin < 2 ^ 63
-    → s.tries < 2 ^ 64 → piece ≡ message_text (mark_of s.mark) bits
-    → ((((((field (std-decimal i) 32 ++ mark_name (mark_of s.mark)) ++ (32 ∷ [])) ++ field (std-decimal s.distance) 32)
-    ++ field (signed_decimal s.margin) 32) ++ field (std-decimal s.tries) 32) ++ piece) ++ (10 ∷ [])
+pub word_text : (i : ℕ) (s : Shown) (a : Answer) (bits piece : List ℕ) → Shows s a → piece ≡ message_text (mark_of s.mark) bits
+    → ((((((field (decimal i) 32 ++ mark_name (mark_of s.mark)) ++ (32 ∷ [])) ++ field (decimal s.distance) 32)
+    ++ field (signed s.margin) 32) ++ field (decimal s.tries) 32) ++ piece) ++ (10 ∷ [])
     ≡ word_line i a bits
 unfolding word_line line
-word_text i s a bits piece h hi hd hm ht e =
-    rw (
-      decimal_lem i hi,
-      decimal_lem s.distance hd,
-      signed_lem s.margin hm,
-      decimal_lem s.tries ht,
-      e,
-      h.mark,
-      h.distance,
-      h.margin,
-      h.tries,
-    ) (simp append_assoc)
+word_text i s a bits piece h e = rw (e, h.mark, h.distance, h.margin, h.tries) (simp append_assoc)
 
 -- .. whose message is a hyphen where it is lost
 pub lost_piece : (m : Marked) (bits : List ℕ) → m ≡ Lost → 45 ∷ [] ≡ message_text (mark_of m) bits
@@ -97,6 +68,14 @@ bits_piece m bits (inl e) = rw e refl
 bits_piece m bits (inr e) = rw e refl
 
 -- ---- how long they are at most
+
+-- totals that a machine holds
+pub record Held (k : Totals) : Type 0 where
+  pub words : k.words < 2 ^ 64
+  pub sures : k.sures < 2 ^ 64
+  pub fairs : k.fairs < 2 ^ 64
+  pub losts : k.losts < 2 ^ 64
+  pub tries : k.tries < 2 ^ 64
 
 -- a number that a machine holds
 held_long : (x : ℕ) → x < 2 ^ 64 → length (decimal x) ≤ 20

@@ -31,7 +31,7 @@ impl Row for Line {
         text.characters(name_of(shown.mark));
         text.character(b' ');
         text.number(shown.distance, b' ');
-        text.number(shown.margin, b' ');
+        text.signed(shown.margin, b' ');
         text.number(shown.tries, b' ');
         match shown.mark {
             Mark::Lost => text.character(b'-'),

@@ -1,7 +1,6 @@
 // A text that is put on a buffer, piece by piece. What has no room is left out, so that nothing is required of the buffer.
 ghost use Rattle.std.specs.Prelude.{◌≡◌, ◌≤◌, [], ◌∷◌, ◌++◌, length};
-
-use itoa::{Buffer, Integer};
+ghost use Rattle.listing.specs.Text.{decimal, signed as Text·signed};
 
 // The buffer, and where the text on it ends.
 #[derive(Drop)]
@@ -51,12 +50,31 @@ impl<'a> Text<'a> {
         }
     }
 
-    // A number in base ten, with a hyphen before a negative one, and the character behind it.
-    pub(crate) fn number<I: Integer>(&mut self, x: I, behind: u8)
-        ensures { Written self.old (I.text x ++ (behind ∷ [])) self.new }
+    // A number in base ten. (Its digits are put by hand: `itoa` writes them into a buffer of its own, from which they are then copied.)
+    fn digits(&mut self, x: usize)
+        ensures { Written self.old (decimal x) self.new }
     {
-        let mut digits = Buffer::new();
-        self.characters(digits.format(x).as_bytes());
+        if 10 <= x {
+            self.digits(x / 10);
+        }
+        self.character(48 + (x % 10) as u8);
+    }
+
+    // The same, and the character behind it.
+    pub(crate) fn number(&mut self, x: usize, behind: u8)
+        ensures { Written self.old (decimal x ++ (behind ∷ [])) self.new }
+    {
+        self.digits(x);
         self.character(behind);
+    }
+
+    // The same with a hyphen before a negative one.
+    pub(crate) fn signed(&mut self, x: i32, behind: u8)
+        ensures { Written self.old (Text·signed x ++ (behind ∷ [])) self.new }
+    {
+        if x < 0 {
+            self.character(b'-');
+        }
+        self.number(x.unsigned_abs() as usize, behind);
     }
 }

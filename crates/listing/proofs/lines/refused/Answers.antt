@@ -1,8 +1,7 @@
 -- The fields one behind the other. Assumes nothing.
-use Rattle.std.proofs.Common.{ℕ, arith, ap, ◌∙◌, ◌++◌}
-use Rattle.std.specs.Fmt.{decimal as std-decimal}
+use Rattle.std.proofs.Common.{ℕ, ap, ◌∙◌, ◌++◌}
 use Rattle.refusal.specs.Checked.{refusal_of}
-use Rattle.listing.specs.Text.{ascii}
+use Rattle.listing.specs.Text.{ascii, decimal}
 use Rattle.listing.proofs.Texts.{then, said}
 use Rattle.listing.proofs.Rows.{field, refusal_text}
 use Rattle.listing.proofs.lines.refused.Goals as goal
@@ -11,5 +10,5 @@ pub returns : goal.returns
 unfolding ascii
 returns c =
     said (then (then c.characters.ensures c.number-2.ensures) c.number-3.ensures)
-    (ap (λ (n : ℕ). (ascii "refused " ++ field (std-decimal n) 32) ++ field (std-decimal c.args.r.place) 10) c.number.ensures.value
-    ∙ refusal_text (refusal_of c.args.r) (omega (arith, c.number.ensures.bounds, c.number.ensures.value)) (omega arith))
+    (ap (λ (n : ℕ). (ascii "refused " ++ field (decimal n) 32) ++ field (decimal c.args.r.place) 10) c.number.ensures.value
+    ∙ refusal_text (refusal_of c.args.r))
