@@ -31,7 +31,7 @@ use Rattle.refusal.specs.Named.{code_of}
 use Rattle.refusal.specs.declared.Code as refusal
 use Rattle.receiver.specs.Held.{code_in, numbers_in}
 use Rattle.receiver.specs.Located.{flips_of, sums_at, AreSyndromes, located_at, Sought}
-use Rattle.receiver.specs.Search.{is_sure, candidate_of, best_of, pick_by, judged_by, Sound, Tried, TestWords}
+use Rattle.receiver.specs.Search.{pick_in, is_sure, candidate_of, best_of, pick_by, judged_by, Sound, Tried, TestWords}
 use Rattle.receiver.specs.declared.flips.Flips.{Flips}
 use Rattle.receiver.specs.declared.weighing.Weight.{Weight}
 use Rattle.receiver.specs.declared.search.Outcome.{Outcome}
@@ -101,9 +101,9 @@ module _ (s : Search) where
 
       pub grown_room : (2 * to ≤ length ts) × Small 576460752303423488 to ts
       grown_room = (
-          omega (arith, size_most b (omega (arith, below, deep.ready.depth)), grown.size, grown.long),
-          tests_small ss ks p deep.ready (code_of c) lawful b to ts grown.size grown.holds,
-        )
+        omega (arith, size_most b (omega (arith, below, deep.ready.depth)), grown.size, grown.long),
+        tests_small ss ks p deep.ready (code_of c) lawful b to ts grown.size grown.holds,
+      )
 
       pub grown_next : (new : List ℕ) → Doubled (flipped_more (code_of c) (get_or (take p ks) b 0)) to ts new → Grown (b + 1) (2 * to) new
       grown_next new d =
@@ -214,7 +214,7 @@ module _ (s : Search) where
           judged : Tried (code_of c) p ss (judged_by A counted w f)
           judged =
               let (more, gone, _) = next.there refl in
-              let e = skip (code_of c) p ss (2 ^ p) (j - o.tries) o.tries j (best_of p ss o.best) (omega arith) (omega (arith, tests.most, next.most))
+              let e = skip (code_of c) p ss (2 ^ p) (j - o.tries) o.tries j (best_of p ss (pick_in o.best)) (omega arith) (omega (arith, tests.most, next.most))
               (λ i l u. missed i (omega (arith, next.most)) (gone i l u)) in
               tried_judged (code_of c) p ss lawful s.long deep.ready.symbols counted unsure j (omega arith)
               (omega (arith, tests.most, next.most)) t.sound t.backed (sym e ∙ t.going unsure) A w f sound gives

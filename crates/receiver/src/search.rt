@@ -5,12 +5,12 @@
 ghost use Rattle.std.specs.Prelude.{◌≡◌, false, ◌++◌, ◌-◌, ◌^◌, ◌<◌, ◌≤◌, length, take};
 ghost use Rattle.bch.specs.Code.{design_distance};
 ghost use Rattle.bch.proofs.logarithms.LogAnswers.{syndromes_of};
-ghost use Rattle.chase.specs.Soft.{hard_bits, soft_stage};
+ghost use Rattle.chase.specs.Soft.{hard_bits};
 ghost use Rattle.chase.proofs.ranking.Allowances.{unflipped_sum};
 ghost use Rattle.refusal.specs.Named.{code_of};
 ghost use Rattle.receiver.specs.Located.{flips_of};
 ghost use Rattle.receiver.specs.Held.{code_in};
-ghost use Rattle.receiver.specs.Search.{pick_in, is_sure, mark_in, judged_by, outcome_of, IsSound, Tried, TestWords};
+ghost use Rattle.receiver.specs.Search.{pick_in, is_sure, mark_in, judged_by, SearchedOf, TriedOf, TestsOf};
 
 use crate::least_keys::Ranked;
 use crate::tables::Tables;
@@ -122,11 +122,12 @@ pub struct Search<'a> {
 }
 
 impl<'a> Search<'a> {
-    // The tries of test words that are ready, unless one of them ends the search.
+    // The tries of test words that are ready, unless one of them ends the search. (A turn makes as many tries as it takes to locate positions,
+    // so that no `for` goes over them.)
     fn try_on(&self, tests: &[u64], start: Outcome) -> Outcome
-        requires tests { TestWords (code_of (code_in self.now.tables.now)) self.now.word.now.p self.now.word.now.symbols.now tests.now }
-        requires tried { Tried (code_of (code_in self.now.tables.now)) self.now.word.now.p self.now.word.now.symbols.now start × (is_sure start.best ≡ false) × (start.tries ≤ length tests.now) }
-        ensures { Tried (code_of (code_in self.now.tables.now)) self.now.word.now.p self.now.word.now.symbols.now result × (is_sure result.best ≡ false → result.tries ≡ length tests.now) }
+        requires tests { TestsOf self.now.tables.now self.now.word.now tests.now }
+        requires tried { TriedOf self.now.tables.now self.now.word.now start × (is_sure start.best ≡ false) × (start.tries ≤ length tests.now) }
+        ensures { TriedOf self.now.tables.now self.now.word.now result × (is_sure result.best ≡ false → result.tries ≡ length tests.now) }
     {
         let mut o = start;
         while o.tries < tests.len() {
@@ -148,8 +149,8 @@ impl<'a> Search<'a> {
     // The tries after that of test word 0: each weak position doubles the test words, as far as the search gets.
     fn search_on(&self, base: u64, start: Outcome) -> Outcome
         requires base { base ≡ syndromes_of (code_of (code_in self.now.tables.now)) (hard_bits self.now.word.now.symbols.now) }
-        requires tried { Tried (code_of (code_in self.now.tables.now)) self.now.word.now.p self.now.word.now.symbols.now start × (is_sure start.best ≡ false) × (start.tries ≡ 1) }
-        ensures { Tried (code_of (code_in self.now.tables.now)) self.now.word.now.p self.now.word.now.symbols.now result × (is_sure result.best ≡ false → result.tries ≡ 2 ^ self.now.word.now.p) }
+        requires tried { TriedOf self.now.tables.now self.now.word.now start × (is_sure start.best ≡ false) × (start.tries ≡ 1) }
+        ensures { TriedOf self.now.tables.now self.now.word.now result × (is_sure result.best ≡ false → result.tries ≡ 2 ^ self.now.word.now.p) }
     {
         let p = self.word.p;
         let mut tests = [base; 64];
@@ -170,7 +171,7 @@ impl<'a> Search<'a> {
 
     // All tries, unless one of them ends the search.
     pub fn run(&self) -> Outcome
-        ensures { (outcome_of self.now.word.now.p self.now.word.now.symbols.now result ≡ soft_stage (code_of (code_in self.now.tables.now)) self.now.word.now.p self.now.word.now.symbols.now) × IsSound (code_in self.now.tables.now).n result.best }
+        ensures { SearchedOf self.now.tables.now self.now.word.now result }
     {
         let base = u64::from(hard_stage::syndromes(&self.tables.field, self.word.symbols, 4));
         let start = Outcome {

@@ -4,7 +4,7 @@ use native.Mathlib.Omega.{arith}
 use mathlib.Core.Path.{◌≡◌, refl, ap, sym, ◌∙◌}
 use Rattle.chase.specs.Soft.{hard_bits}
 use Rattle.chase.proofs.test_words.Reach.{bits_hard}
-use Rattle.receiver.proofs.Outcomes.{no_bool, tried_none, tried_all}
+use Rattle.receiver.proofs.Outcomes.{tried_none, tried_all}
 use Rattle.receiver.proofs.Turns.{first_tests}
 use Rattle.receiver.proofs.search.Search.run.Goals.{then-is_sure-via-then-is_sure, then-is_sure-via-else-is_sure+then-self-eq0}
 use Rattle.receiver.proofs.search.Search.run.Goals as goal
@@ -29,10 +29,10 @@ returns-then-is_sure c =
     let e = c.try_on-o.ensures in
     let all = tried_all _ _ _ _ e.0 in
     elim c.then-is_sure.branch [
-      | then-is_sure-via-then-is_sure w ↦ (all (λ z. no_bool (sym w.if-is_sure.true ∙ c.is_sure.ensures ∙ z)), e.0.sound)
+      | then-is_sure-via-then-is_sure w ↦ (all (λ z. cc), e.0.sound)
       | then-is_sure-via-else-is_sure+then-self-eq0 w ↦
-        let one : 1 ≡ 2 ^ c.args.self.now.word.now.p = sym (ap (λ (n : ℕ). 2 ^ n) w.if-self-eq0.true) in
-        (all (λ z. e.1 z ∙ one), e.0.sound)
+          let one : 1 ≡ 2 ^ c.args.self.now.word.now.p = sym (ap (λ (n : ℕ). 2 ^ n) w.if-self-eq0.true) in
+          (all (λ z. e.1 z ∙ one), e.0.sound)
     ]
 
 pub search_on-requires-clause-base : goal.search_on-requires-clause-base

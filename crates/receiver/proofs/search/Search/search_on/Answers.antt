@@ -41,9 +41,9 @@ loop-b-preserved c =
     let t = grown_tests s _ _ _ g in
     elim c.if-due.branch [
       | then-due+else-is_sure w ↦
-        let unsure = sym w.is_sure.ensures ∙ w.if-is_sure.false in
-        let made = w.try_on-o.ensures.1 unsure ∙ sym t.1 ∙ g.size in
-        rw w.o-is (g, w.try_on-o.ensures.0, unsure, omega (arith, made), λ _. made)
+          let unsure = sym w.is_sure.ensures ∙ w.if-is_sure.false in
+          let made = w.try_on-o.ensures.1 unsure ∙ sym t.1 ∙ g.size in
+          rw w.o-is (g, w.try_on-o.ensures.0, unsure, omega (arith, made), λ _. made)
       | else-due w ↦
-        rw w.o-is (g, i.1, i.2, omega (arith, i.3, i.0.size, g.size), λ q. absurd (omega (arith, c.due.ensures w.if-due.false, q)))
+          rw w.o-is (g, i.1, i.2, omega (arith, i.3, i.0.size, g.size), λ q. absurd (omega (arith, c.due.ensures w.if-due.false, q)))
     ]

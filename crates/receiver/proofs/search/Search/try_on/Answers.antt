@@ -1,7 +1,6 @@
 -- What is left to try, with the best so far, gives what all tries give. Assumes nothing.
 use native.Mathlib.Omega.{arith}
 use mathlib.Core.Path.{sym, ◌∙◌}
-use Rattle.receiver.proofs.Outcomes.{no_bool}
 use Rattle.receiver.proofs.Turns.{are_syndromes, turn_missed, turn_weight, turn_distinct, turn_judged}
 use Rattle.receiver.proofs.search.Search.try_on.Goals as goal
 
@@ -31,7 +30,7 @@ returns-then-is_sure c =
     let next = rw c.in-Some.is at c.next-spot.ensures in
     let w = c.weigh-weight in
     let t = turn_judged c.args.self.now _ c.requires.tests _ i.1 i.0 _ c.in-Some.flips next w.result w.ensures _ c.judged-o.ensures in
-    (t.0, λ z. no_bool (sym c.if-is_sure.true ∙ c.is_sure.ensures ∙ z))
+    (t.0, λ z. cc)
 
 pub loop-o-smaller : goal.loop-o-smaller
 loop-o-smaller c =
