@@ -1,3 +1,4 @@
+pub mod Called
 pub mod HighBits
 pub mod Locating
 pub mod Marks
@@ -5,5 +6,6 @@ pub mod Outcomes
 pub mod Placed
 pub mod Places
 pub mod Powers
+pub mod Repairing
 pub mod Tellings
 pub mod Turns

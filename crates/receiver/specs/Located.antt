@@ -51,8 +51,9 @@ abbrev pub Sought : refusal.Code → List ℕ → List ℕ → ℕ → ℕ → R
 Sought c tables tests made tries f = Next (located_at c tables tests) made (length tests) tries (is_some f) (count_of f) (places_in f)
 
 -- they are where the hard stage flips a word, and positions of it
-abbrev pub Repaired : refusal.Code → List ℕ → Rust·Option Flips → Type 0
-Repaired c xs f = Repairs (code_of c) xs (is_some f) (count_of f) (places_in f) × IfSome f (λ k. Below c.n (flips_of k))
+pub record Repaired (c : refusal.Code) (xs : List ℕ) (f : Rust·Option Flips) : Type 0 where
+  pub repairs : Repairs (code_of c) xs (is_some f) (count_of f) (places_in f)
+  pub below : IfSome f (λ k. Below c.n (flips_of k))
 
 -- they are so for every word of these syndromes
 abbrev pub Repairing : refusal.Code → ℕ → Rust·Option Flips → Type 0

@@ -16,7 +16,7 @@ ghost use Rattle.receiver.specs.Tables.{Fielded};
 
 use crate::tables::{self, Field, Tables};
 use crate::{Flips, locate};
-use refusal::{Code, Refusal};
+use refusal::Code;
 
 // x where the bit is 1, and 0 where it is 0. (A mask: a choice would become a branch for the positions that are left over where the
 // compiler takes several at once.)
@@ -33,10 +33,9 @@ pub fn syndromes(field: &Field, word: &[u8], shift: u8) -> u32
     requires { (length word.now ≡ field.now.code.n) × (shift < 8) × Bits (bits_at shift word.now) }
     ensures { result ≡ syndromes_of (code_of field.now.code) (bits_at shift word.now) }
 {
-    let powers = &field.numbers[field.code.powers..];
     let mut sum = 0;
-    for (byte, power) in word.iter().zip(powers) {
-        sum ^= where_set(*byte >> shift, *power);
+    for (i, byte) in word.iter().enumerate() {
+        sum ^= where_set(*byte >> shift, field.powers_of(i));
     }
     sum
 }
@@ -78,6 +77,7 @@ pub fn flip_at(out: &mut [u8], from: usize, f: &Flips)
 }
 
 // The bits flipped at the positions that the hard stage flips, where it does; and these in its answer.
+#[tactic(auto, using(crate::proofs::Repairing::answers))]
 fn write(c: Code, f: Option<Flips>, bits: &[u8], codeword: &mut [u8]) -> Option<Flips>
     requires bits_len { (length bits.now ≡ c.n) × (length codeword.old ≡ c.n) × Bits bits.now }
     requires repairs { Repaired c bits.now f }

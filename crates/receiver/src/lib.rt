@@ -48,6 +48,7 @@ mod weighing;
 
 // Writes the codeword within t flips of n bits, where there is one, and answers the flipped positions; a word that is lost has none. Any m, t,
 // n, bits and buffer may be handed in.
+#[tactic(auto, using(crate::proofs::Called::hard_called))]
 pub fn decode_hard(
     m: usize,
     t: usize,

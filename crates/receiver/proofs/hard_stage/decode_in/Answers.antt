@@ -1,5 +1,5 @@
 -- What is located for the syndromes of the bits is where they are flipped. Assumes nothing.
-use mathlib.Core.Path.{◌≡◌, ap, ◌∙◌}
+use mathlib.Core.Path.{ap, ◌∙◌}
 use Rattle.bch.proofs.logarithms.LogAnswers.{syndromes_of, syndromes_in}
 use Rattle.refusal.specs.Named.{code_of}
 use Rattle.receiver.proofs.HighBits.{low_bits}
