@@ -1,5 +1,5 @@
 -- Laws of the program's output: what it is for an input, and that it has room in its buffer. Assumes nothing.
-use Rattle.std.proofs.Common.{ℕ, zero, suc, ◌+◌, ◌*◌, ◌≤◌, ◌<◌, ◌≡◌, List, ◌++◌, length, drop, refl, sym, ap, subst, ◌∙◌, arith, inl, inr, ◌⊎◌}
+use Rattle.std.proofs.Common.{ℕ, zero, suc, ◌+◌, ◌*◌, ◌≤◌, ◌<◌, ◌≡◌, List, ◌++◌, length, refl, sym, ap, ◌∙◌, arith, inl, inr, ◌⊎◌}
 use native.Mathlib.Nat.{suc-mul, mul-add, mul-le-mul, mul-le-mul_left}
 use native.Mathlib.Numerals.{add-one}
 use borrow.Author.Tests.{lt-ltb, le-ltb}
@@ -8,7 +8,7 @@ use Rattle.bch.specs.Code.{word_length, message_length}
 use Rattle.bch.proofs.codes.Settings.{word_long}
 use Rattle.take_format.specs.Refusal.{Refusal}
 use Rattle.take_format.specs.Batch.{message, Totals}
-use Rattle.take_format.specs.Take.{Header, header, totals, open_answer}
+use Rattle.take_format.specs.Take.{Header, totals, open_answer}
 use Rattle.take_format.proofs.takes.Reading.{Reading, answer_at, is_code, whole, depth_most, small_at}
 use Rattle.listing.specs.Text.{word_line, totals_line, refusal_line, too_long}
 use Rattle.listing.specs.Takelist.{line_at, lines_of, take_text, open_text, takelist}

@@ -1,7 +1,7 @@
 -- Laws of lines as the fields that the code writes, and how long they are at most. Assumes nothing.
 use Prim.Native.Nat.{ℕ, suc, ◌+◌, ◌^◌, ◌≤◌, ◌<◌}
 use native.Mathlib.Omega.{arith}
-use mathlib.Core.Path.{◌≡◌, refl, ap, sym, ◌∙◌}
+use mathlib.Core.Path.{◌≡◌, refl}
 use mathlib.Core.Logic.{◌⊎◌, inl, inr}
 use mathlib.Core.List.{List, [], ◌∷◌, ◌++◌, append_assoc}
 use lib.IntN.{ℤ, pos, negsuc}
@@ -10,7 +10,6 @@ use lib.Pow.{pow_mono}
 use lib.Signed.{mag}
 use mir.Syntax.{w32}
 use mir.Val.{SFits}
-use Rattle.std.specs.Fmt.{decimal as std-decimal, signed_decimal}
 use Rattle.chase.specs.Soft.{Mark, lost, fair, sure, Answer}
 use Rattle.chase.proofs.weighing.Bounded.{BoundedAnswer}
 use Rattle.take_format.specs.Refusal.{Refusal}
@@ -20,7 +19,7 @@ use Rattle.receiver.specs.declared.Mark.{Mark as Marked}
 use Rattle.receiver.specs.declared.Mark.TheVariants.{Lost, Fair, Sure}
 use Rattle.listing.specs.declared.take.Shown.{Shown}
 use Rattle.listing.specs.Shown.{mark_of, Shows}
-use Rattle.listing.proofs.Decimals.{decimal_lem, signed_lem, decimal_long}
+use Rattle.listing.proofs.Decimals.{decimal_long}
 
 -- ---- the fields that the code writes
 
@@ -115,7 +114,7 @@ totals_long k h =
     let c = length-append (decimal k.fairs) (32 ∷ (decimal k.losts ++ (32 ∷ (decimal k.tries ++ (10 ∷ []))))) in
     let b = length-append (decimal k.sures) (32 ∷ (decimal k.fairs ++ (32 ∷ (decimal k.losts ++ (32 ∷ (decimal k.tries ++ (10 ∷ []))))))) in
     let a = length-append (decimal k.words)
-        (32 ∷ (decimal k.sures ++ (32 ∷ (decimal k.fairs ++ (32 ∷ (decimal k.losts ++ (32 ∷ (decimal k.tries ++ (10 ∷ []))))))))) in
+    (32 ∷ (decimal k.sures ++ (32 ∷ (decimal k.fairs ++ (32 ∷ (decimal k.losts ++ (32 ∷ (decimal k.tries ++ (10 ∷ []))))))))) in
     omega (
       arith,
       a,
@@ -141,9 +140,9 @@ word_line_long i p a bits few depth s =
     let lm = length-append (signed a.margin) (32 ∷ (decimal a.tries ++ (32 ∷ (z ++ (10 ∷ []))))) in
     let ld = length-append (decimal a.distance) (32 ∷ (signed a.margin ++ (32 ∷ (decimal a.tries ++ (32 ∷ (z ++ (10 ∷ []))))))) in
     let ln = length-append (mark_name a.mark)
-        (32 ∷ (decimal a.distance ++ (32 ∷ (signed a.margin ++ (32 ∷ (decimal a.tries ++ (32 ∷ (z ++ (10 ∷ []))))))))) in
+    (32 ∷ (decimal a.distance ++ (32 ∷ (signed a.margin ++ (32 ∷ (decimal a.tries ++ (32 ∷ (z ++ (10 ∷ []))))))))) in
     let li = length-append (decimal i)
-        (32 ∷ (mark_name a.mark ++ (32 ∷ (decimal a.distance ++ (32 ∷ (signed a.margin ++ (32 ∷ (decimal a.tries ++ (32 ∷ (z ++ (10 ∷ []))))))))))) in
+    (32 ∷ (mark_name a.mark ++ (32 ∷ (decimal a.distance ++ (32 ∷ (signed a.margin ++ (32 ∷ (decimal a.tries ++ (32 ∷ (z ++ (10 ∷ []))))))))))) in
     omega (
       arith,
       lz,

@@ -6,7 +6,7 @@ ghost use Rattle.listing.specs.Text.{decimal, signed as Text·signed};
 #[derive(Drop)]
 pub struct Text<'a> {
     bytes: &'a mut [u8],
-    at: usize,
+    pub(crate) at: usize,
     ghost inside: { at ≤ length bytes.now },
 }
 
@@ -27,7 +27,7 @@ impl<'a> Text<'a> {
         ensures value { result ≡ self.now.at }
         ensures upper_bound { result ≤ length self.now.bytes.now }
     {
-        self.at
+        self.bytes[..self.at].len()
     }
 
     // Characters as they stand.

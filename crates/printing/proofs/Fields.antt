@@ -1,8 +1,8 @@
 -- Laws of a line's fields: what the code writes of a field, and how long a line is. Assumes nothing.
 -- (`Cases` is named so that its cases are checked before these laws, which follow the definitions' text.)
-use Prim.Native.Nat.{ℕ, zero, suc, ◌+◌, ◌-◌, ◌^◌, ◌≤◌, ◌<◌}
+use Prim.Native.Nat.{ℕ, zero, suc, ◌-◌, ◌^◌, ◌≤◌, ◌<◌}
 use native.Mathlib.Omega.{arith}
-use mathlib.Core.Path.{◌≡◌, refl, ap, sym, ◌∙◌}
+use mathlib.Core.Path.{◌≡◌, refl, ap, ◌∙◌}
 use mathlib.Core.List.{List, [], ◌∷◌, ◌++◌, append_assoc}
 use lib.IntN.{ℤ}
 use lib.ListN.{length, take, replicate, length-append, length-replicate}

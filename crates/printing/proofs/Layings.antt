@@ -1,8 +1,8 @@
 -- Laws of laying a take out: its rows are its pages, and how long they are. Assumes nothing.
-use Prim.Native.Nat.{ℕ, ◌≤◌, ◌<◌}
+use Prim.Native.Nat.{ℕ, ◌<◌}
 use native.Mathlib.Omega.{arith}
 use mathlib.Core.Path.{◌≡◌, refl, ap, sym, ◌∙◌}
-use mathlib.Core.List.{List, [], ◌++◌, append-nil}
+use mathlib.Core.List.{List, ◌++◌, append-nil}
 use lib.ListN.{length, drop}
 use Rattle.chase.specs.Soft.{Answer}
 use Rattle.take_format.specs.Take.{Header}

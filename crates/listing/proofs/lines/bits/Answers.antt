@@ -1,5 +1,5 @@
 -- The bits so far are characters. Assumes nothing.
-use Rattle.std.proofs.Common.{◌∙◌, arith}
+use Rattle.std.proofs.Common.{◌∙◌}
 use Rattle.listing.proofs.Texts.{shown_none, bits_more, shown_all}
 use Rattle.listing.proofs.lines.bits.Goals as goal
 

@@ -1,5 +1,5 @@
 -- By the length of the input, and by whether the take is opened. Assumes nothing.
-use Rattle.std.proofs.Common.{◌≡◌, ◌≤◌, List, ℕ, ◌++◌, ap, sym, subst, ◌∙◌, arith, rules, length, inl, inr}
+use Rattle.std.proofs.Common.{◌≡◌, List, ℕ, ◌++◌, ap, sym, ◌∙◌, arith, rules, length, inl}
 use lib.ListN.{length-append}
 use Rattle.take_format.specs.Take.{open_answer, totals}
 use Rattle.refusal.specs.Checked.{refusal_of, answer_of}

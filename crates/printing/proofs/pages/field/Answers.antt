@@ -1,5 +1,5 @@
 -- Spaces, the text and the character behind it. Assumes nothing.
-use Rattle.std.proofs.Common.{rules, arith, ◌∙◌}
+use Rattle.std.proofs.Common.{rules}
 use Rattle.listing.proofs.Texts.{said, then}
 use Rattle.printing.proofs.Fields.{field_text}
 use Rattle.printing.proofs.pages.field.Goals as goal

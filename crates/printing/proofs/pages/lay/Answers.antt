@@ -1,5 +1,5 @@
 -- By whether there are words. Assumes nothing.
-use Rattle.std.proofs.Common.{rules, arith, ◌∙◌, ◌≡◌, ◌<◌, subst}
+use Rattle.std.proofs.Common.{arith, ◌∙◌, ◌≡◌, ◌<◌, subst}
 use Rattle.takes.specs.Answer.{header_of}
 use Rattle.listing.specs.Text.{ascii, line}
 use Rattle.listing.specs.declared.text.Text.{Text}
@@ -20,11 +20,11 @@ returns-clause-text c =
     let h = header_of c.args.take.header in
     let ok : Printable bs h = record { reading = reading bs h c.args.take.opened; few = omega arith } in
     elim c.if-words-eq0.branch [
-      | then-words-eq0 w ↦ 
+      | then-words-eq0 w ↦
           let z : h.words ≡ 0 = omega (arith, w.if-words-eq0.true, c.words.ensures) in
           said (then w.characters.ensures (subst (λ (t : Text). Written t (rows row bs h h.words) c.write.new.text) w.text-is c.write.ensures.text))
           (strip_empty bs h ok z)
-      | else-words-eq0 w ↦ 
+      | else-words-eq0 w ↦
           let some : 0 < h.words = not_zero h.words (λ z. w.if-words-eq0.false (c.words.ensures ∙ z)) in
           said (subst (λ (t : Text). Written t (rows row bs h h.words) c.write.new.text) w.text-is c.write.ensures.text) (strip_words bs h ok some)
     ]

@@ -14,6 +14,6 @@ returns-clause-strip c =
     let t = c.new-text in
     let ok : Printable bs h = record { reading = reading bs h c.args.take.opened; few = omega arith } in
     let all = filled t.result c.lay.new.text (take_strip bs) t.ensures.at c.lay.ensures.text
-        (take_long bs h ok ∙ sym c.requires ∙ ap length (sym t.ensures.bytes)) (search rules) in
+    (take_long bs h ok ∙ sym c.requires ∙ ap length (sym t.ensures.bytes)) (search rules) in
     let name = sym (c.lay.ensures.text.same ∙ t.ensures.same) in
     search rules

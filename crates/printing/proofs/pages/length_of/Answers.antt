@@ -1,5 +1,5 @@
 -- The pages of the words. Assumes nothing.
-use Rattle.std.proofs.Common.{arith, rules}
+use Rattle.std.proofs.Common.{arith}
 use Rattle.printing.specs.Layout.{strip_length}
 use Rattle.printing.proofs.pages.length_of.Goals as goal
 

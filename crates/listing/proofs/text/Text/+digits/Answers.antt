@@ -1,5 +1,5 @@
 -- The digits of a tenth, where there are any, and one behind them. Assumes nothing.
-use Rattle.std.proofs.Common.{ℕ, ◌+◌, ◌%◌, ◌∷◌, [], subst, arith}
+use Rattle.std.proofs.Common.{◌+◌, ◌%◌, ◌∷◌, [], subst, arith}
 use Rattle.listing.specs.declared.text.Text.{Text}
 use Rattle.listing.specs.Written.{Written}
 use Rattle.listing.proofs.Texts.{said, then}

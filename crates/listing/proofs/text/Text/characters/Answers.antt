@@ -1,5 +1,5 @@
 -- What has room is copied behind the rest. Assumes nothing.
-use Rattle.std.proofs.Common.{rules, refl, sym, ap, ◌∙◌, arith}
+use Rattle.std.proofs.Common.{rules, refl, arith}
 use Rattle.listing.proofs.Texts.{copied}
 use Rattle.listing.proofs.text.Text.characters.Goals as goal
 

@@ -1,5 +1,5 @@
 -- By the sign. Assumes nothing.
-use Rattle.std.proofs.Common.{ℕ, List, ◌+◌, ◌∷◌, [], ◌++◌, subst, arith, ap, ◌∙◌, sym}
+use Rattle.std.proofs.Common.{ℕ, List, ◌∷◌, [], ◌++◌, subst, ap, ◌∙◌}
 use mir.Facts.{to_z-of_z}
 use Rattle.listing.specs.Text.{decimal, signed}
 use Rattle.listing.specs.declared.text.Text.{Text}
