@@ -24,45 +24,16 @@ use Rattle.take_format.specs.Refusal.{Refusal, hard_refusal, soft_refusal}
 use Rattle.take_format.specs.Calls.{answered, HardCase, refused, lost, found, HardAnswer, flipped_in, hard_record, hard_answer, soft_answer, ladder_answer}
 use Rattle.take_format.specs.Batch.{Totals}
 use Rattle.take_format.specs.Samples.{ladder_check}
-use Rattle.take_format.specs.Take.{number16, header, open_answer, take_answer}
+use Rattle.take_format.specs.Take.{number16, header}
 use Rattle.take_format.specs.Promise.{TakePromise}
-use Rattle.refusal.specs.Checked.{refusal_of}
-use Rattle.refusal.specs.declared.Refusal as struct
-use Rattle.receiver.specs.Answer.{soft_of}
-use Rattle.receiver.specs.declared.Soft.{Soft}
-use Rattle.receiver.specs.declared.Soft.TheVariants.{Refused}
-use Rattle.receiver_c.specs.Packed.{soft_packed}
-use Rattle.take_format.proofs.checks.RefusalLaws.{IfRefused, BitsAccepted, bits_accepted, soft_accepted}
+use Rattle.refusal.specs.Checked.{number_of}
+use Rattle.refusal.specs.declared.Cause.{Cause}
+use Rattle.take_format.proofs.checks.RefusalLaws.{BitsAccepted, bits_accepted, soft_accepted}
 use Rattle.take_format.proofs.checks.CallLaws.{answered_inl, answered_inr}
-use Rattle.take_format.proofs.checks.Numbers.{Numbered, numbered_bits, numbered_soft, numbered_open, numbered_take}
 
 -- a refusal's number is small
-pub number_small : (o : Option Refusal) → IfRefused Numbered o → (r : Refusal) → some r ≡ o → r.number < 128
-number_small o f r e = omega (arith, (f r (sym e)).1)
-
-record_number : (o : Option Refusal) (s : Option Repair) (r : Refusal) → IfRefused Numbered o → (hard_record (answered o s)).case ≡ refused r
-    → r.number < 128
-unfolding hard_record answered
-record_number (some q) s r f e = let w : r ≡ q = cc in rw w (number_small (some q) f q refl)
-record_number none none r f e = absurd (let z : ◌≡◌ {A = ℕ} 0 1 = cc in omega arith)
-record_number none (some s) r f e = absurd (let z : ◌≡◌ {A = ℕ} 0 1 = cc in omega arith)
-
-pub hard_number : (c : Code) (bits codeword : List ℕ) (h : HardAnswer) (r : Refusal) → h ≡ hard_answer c bits codeword → h.case ≡ refused r
-    → r.number < 128
-unfolding hard_answer
-hard_number c bits codeword h r e k =
-    record_number (hard_refusal c bits codeword) (hard_stage c bits) r (numbered_bits c (word_length c) bits codeword)
-    (sym (ap (λ (x : HardAnswer). x.case) e) ∙ k)
-
-soft_number : (c : Code) (p : ℕ) (symbols codeword : List ℕ) (r : Refusal) → inl r ≡ soft_answer c p symbols codeword → r.number < 128
-unfolding soft_answer
-soft_number c p symbols codeword r e = number_small _ (numbered_soft c p symbols codeword) r (answered_inl _ _ r e)
-
-pub soft_refused : (c : Code) (p : ℕ) (symbols codeword word : List ℕ) (answer : Soft) (r : struct.Refusal) → answer ≡ Refused r
-    → soft_of answer word ≡ soft_answer c p symbols codeword → r.number < 128
-unfolding soft_of
-soft_refused c p symbols codeword word answer r e f =
-    soft_number c p symbols codeword (refusal_of r) (sym (ap (λ (x : Soft). soft_of x word) e) ∙ f)
+pub number_small : (k : Cause) → number_of k < 128
+number_small k = grind arith
 
 pub ladder_refused : (es : List Float) (r : Refusal) → inl r ≡ ladder_answer es → some r ≡ ladder_check es
 unfolding ladder_answer
@@ -71,14 +42,6 @@ ladder_refused es r e = answered_inl _ _ r e
 pub ladder_passed : (es fs : List Float) → inr fs ≡ ladder_answer es → (none ≡ ladder_check es) × (fs ≡ es)
 unfolding ladder_answer
 ladder_passed es fs e = answered_inr _ _ fs e
-
-pub open_number : (bs : List ℕ) (r : Refusal) → inl r ≡ open_answer bs → r.number < 128
-unfolding open_answer
-open_number bs r e = number_small _ (numbered_open bs) r (answered_inl _ _ r e)
-
-pub take_number : (bs messages marks : List ℕ) (r : Refusal) → inl r ≡ take_answer bs messages marks → r.number < 128
-unfolding take_answer
-take_number bs messages marks r e = number_small _ (numbered_take bs messages marks) r (answered_inl _ _ r e)
 
 -- the numbers of the hard stage's record
 pub record Flipped (h : HardAnswer) : Type 0 where
@@ -120,7 +83,7 @@ pub record Room (a : Answer) : Type 0 where
   pub distance : a.distance < 65536
   pub margin : mag a.margin < 32768
 
-soft_room : (c : Code) (p : ℕ) (symbols codeword : List ℕ) (a : Answer) → inr a ≡ soft_answer c p symbols codeword → Room a
+pub soft_room : (c : Code) (p : ℕ) (symbols codeword : List ℕ) (a : Answer) → inr a ≡ soft_answer c p symbols codeword → Room a
 unfolding soft_answer
 soft_room c p symbols codeword a e =
     let (n, f) = answered_inr (soft_refusal c p symbols codeword) (soft_stage c p symbols) a e in
@@ -134,16 +97,6 @@ soft_room c p symbols codeword a e =
       distance = omega (arith, small.distance);
       margin = small.margin;
     })
-
--- the same of the answer that is told
-pub told_room : (c : Code) (p : ℕ) (symbols codeword word : List ℕ) (answer told : Soft) (a : Answer) → answer ≡ told
-    → soft_of answer word ≡ soft_answer c p symbols codeword → soft_of told word ≡ inr a → Room a
-told_room c p symbols codeword word answer told a e f g = soft_room c p symbols codeword a (sym g ∙ sym (ap (λ (x : Soft). soft_of x word) e) ∙ f)
-
--- and its number
-pub told_packed : (word : List ℕ) (answer told : Soft) (s : Refusal ⊎ Answer) → answer ≡ told → soft_of answer word ≡ s
-    → soft_packed (soft_of told word) ≡ soft_packed s
-told_packed word answer told s e f = ap soft_packed (sym (ap (λ (x : Soft). soft_of x word) e) ∙ f)
 
 -- the word count of a take has two bytes
 pub few_words : (bs : List ℕ) → get_or bs 0 0 < 256 → get_or bs 1 0 < 256 → (header bs).words ≤ 65535

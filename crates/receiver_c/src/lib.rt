@@ -9,16 +9,13 @@ ghost use Rattle.take_format.specs.Refusal.{encode_refusal};
 ghost use Rattle.take_format.specs.Samples.{ladder_check};
 ghost use Rattle.take_format.specs.Calls.{encode_buffer, hard_answer, hard_buffer, soft_answer, soft_buffer};
 ghost use Rattle.take_format.specs.Take.{open_answer, take_answer, take_messages, take_marks};
+ghost use Rattle.refusal.specs.Checked.{checked};
 ghost use Rattle.printing.specs.Calls.{length_answer, strip_answer, strip_buffer};
 ghost use Rattle.receiver_c.specs.Packed.{check_packed, hard_packed, soft_packed, open_packed, take_packed, length_packed};
 ghost use Rattle.receiver_c.specs.Packed.{quantise_refusal, quantise_buffer, Promised};
 
-use encoder::Encoded;
-use printing::Length;
-use quantiser::Made;
-use receiver::{HardCase, Soft, Words};
-use refusal::Check;
-use takes::Opening;
+use receiver::{Found, Mark, Soft};
+use refusal::Refusal;
 
 mod packed;
 
@@ -34,10 +31,7 @@ pub extern "C" fn receiver_encode_packed(
     ensures answer { result ≡ check_packed (encode_refusal (code m t n) message.now codeword.old) }
     ensures codeword { codeword.new ≡ encode_buffer (code m t n) message.now codeword.old }
 {
-    match encoder::encode(m, t, n, message, codeword) {
-        Encoded::Refused(r) => packed::refusal(r),
-        Encoded::Written => 0,
-    }
+    packed::check(encoder::encode(m, t, n, message, codeword))
 }
 
 // Writes the codeword within t flips of n bits, where there is one.
@@ -52,13 +46,10 @@ pub extern "C" fn receiver_decode_hard_packed(
     ensures answer { result ≡ hard_packed (hard_answer (code m t n) bits.now codeword.old) }
     ensures codeword { codeword.new ≡ hard_buffer (code m t n) bits.now codeword.old }
 {
-    let answer = receiver::decode_hard(m, t, n, bits, codeword);
-    let at = answer.at;
-    let case = answer.case;
-    match case {
-        HardCase::Refused(r) => packed::refusal(r),
-        HardCase::Lost => 0,
-        HardCase::Found => packed::found(answer.count, at[0], at[1], at[2]),
+    match receiver::decode_hard(m, t, n, bits, codeword) {
+        Ok(Some(flips)) => packed::found(flips),
+        Ok(None) => 0,
+        Err(r) => packed::refusal(r),
     }
 }
 
@@ -76,22 +67,19 @@ pub extern "C" fn receiver_decode_soft_packed(
     ensures codeword { codeword.new ≡ soft_buffer (code m t n) depth symbols.now codeword.old }
 {
     match receiver::decode_soft(m, t, n, depth, symbols, codeword) {
-        Soft::Refused(r) => packed::refusal(r),
-        Soft::Lost { tries } => packed::answer(0, 0, tries, 0, 0, 0),
-        Soft::Fair {
-            distance,
-            margin,
-            flips,
-            place,
-            tries,
-        } => packed::answer(1, flips, tries, place, distance, margin),
-        Soft::Sure {
-            distance,
-            margin,
-            flips,
-            place,
-            tries,
-        } => packed::answer(2, flips, tries, place, distance, margin),
+        Ok(Soft::Sure(found)) => packed::answer(Mark::Sure, found),
+        Ok(Soft::Fair(found)) => packed::answer(Mark::Fair, found),
+        Ok(Soft::Lost { tries }) => {
+            let none = Found {
+                distance: 0,
+                margin: 0,
+                flips: 0,
+                place: 0,
+                tries,
+            };
+            packed::answer(Mark::Lost, none)
+        }
+        Err(r) => packed::refusal(r),
     }
 }
 
@@ -101,9 +89,18 @@ pub extern "C" fn receiver_check_ladder_packed(edges: &[f32]) -> u64
     ensures { result ≡ check_packed (ladder_check edges.now) }
 {
     match quantiser::make_ladder(edges) {
-        Made::Refused(r) => packed::refusal(r),
-        Made::Accepted(_) => 0,
+        Ok(_) => 0,
+        Err(r) => packed::refusal(r),
     }
+}
+
+// Quantises by the ladder of these edges.
+fn quantised(edges: &[f32], kinds: &[u8], levels: &[f32], symbols: &mut [u8]) -> Result<(), Refusal>
+    ensures answer { checked result ≡ quantise_refusal edges.now kinds.now levels.now symbols.old }
+    ensures symbols { symbols.new ≡ quantise_buffer edges.now kinds.now levels.now symbols.old }
+{
+    let ladder = quantiser::make_ladder(edges)?;
+    quantiser::quantise(ladder, kinds, levels, symbols)
 }
 
 // Writes the symbol of each sample by the ladder of these edges.
@@ -117,15 +114,7 @@ pub extern "C" fn receiver_quantise_packed(
     ensures answer { result ≡ check_packed (quantise_refusal edges.now kinds.now levels.now symbols.old) }
     ensures symbols { symbols.new ≡ quantise_buffer edges.now kinds.now levels.now symbols.old }
 {
-    match quantiser::make_ladder(edges) {
-        Made::Refused(r) => packed::refusal(r),
-        Made::Accepted(ladder) => {
-            match quantiser::quantise(ladder, kinds, levels, symbols) {
-                Check::Refused(r) => packed::refusal(r),
-                Check::Passed => 0,
-            }
-        }
-    }
+    packed::check(quantised(edges, kinds, levels, symbols))
 }
 
 // Checks a take whole and answers what its header says.
@@ -134,8 +123,8 @@ pub extern "C" fn receiver_open_take_packed(take: &[u8]) -> u64
     ensures { result ≡ open_packed (open_answer take.now) }
 {
     match takes::open_take(take) {
-        Opening::Refused(r) => packed::refusal(r),
-        Opening::Opened(h) => packed::header(h),
+        Ok(header) => packed::header(header),
+        Err(r) => packed::refusal(r),
     }
 }
 
@@ -152,8 +141,8 @@ pub extern "C" fn receiver_read_take_packed(
     ensures promise { Promised result take.now messages.new marks.new }
 {
     match takes::read_take(take, messages, marks) {
-        Words::Refused(r) => packed::refusal(r),
-        Words::Decoded(totals) => packed::totals(totals),
+        Ok(totals) => packed::totals(totals),
+        Err(r) => packed::refusal(r),
     }
 }
 
@@ -163,8 +152,8 @@ pub extern "C" fn receiver_strip_length_packed(take: &[u8]) -> u64
     ensures { result ≡ length_packed (length_answer take.now) }
 {
     match printing::strip_length(take) {
-        Length::Refused(r) => packed::refusal(r),
-        Length::Bytes(bytes) => 256 * (bytes as u64),
+        Ok(bytes) => 256 * (bytes as u64),
+        Err(unopened) => packed::refusal(unopened),
     }
 }
 
@@ -175,7 +164,7 @@ pub extern "C" fn receiver_print_take_packed(take: &[u8], strip: &mut [u8]) -> u
     ensures strip { strip.new ≡ strip_buffer take.now strip.old }
 {
     match printing::print_take(take, strip) {
-        Words::Refused(refused) => packed::refusal(refused),
-        Words::Decoded(sums) => packed::totals(sums),
+        Ok(sums) => packed::totals(sums),
+        Err(refused) => packed::refusal(refused),
     }
 }

@@ -5,4 +5,4 @@ use Rattle.receiver_c.proofs.packed.refusal.Goals as goal
 
 pub returns : goal.returns
 unfolding refusal_packed
-returns c = omega (arith, c.place.ensures)
+returns c = omega arith
