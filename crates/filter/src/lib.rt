@@ -22,7 +22,10 @@ pub fn read_full(input: &mut impl Read, buffer: &mut [u8]) -> io::Result<usize>
 
 // Prints what `print` writes for the input: it fills the front of a buffer, and answers how far. One byte more is read than the programs
 // accept, so that longer input is told apart.
-pub fn run<R: Input + Print, F: FnOnce(&[u8], &mut [u8; 900000]) -> usize>(rt: &R, print: F) -> io::Result<()>
+pub fn run<R: Input + Print, F: FnOnce(&[u8], &mut [u8; 900000]) -> usize>(
+    rt: &R,
+    print: F,
+) -> io::Result<()>
     requires { F.IsAlwaysCallable print }
 {
     let mut input = [0; 65537];

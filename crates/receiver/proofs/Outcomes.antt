@@ -6,13 +6,13 @@ use mathlib.Core.Bool.{Bool, true, false, cond}
 use mathlib.Core.List.{List}
 use mathlib.Core.Option.{Option, none, some, map}
 use borrow.Author.Tests.{ltb-true, ltb-false, leb-true, leb-false}
-use lib.Dec.{ltb, leb}
+use lib.Dec.{leb}
 use lib.ListN.{length}
 use Rattle.std.proofs.lemmas.Bool.Decides.{nat_tests}
 use Rattle.std.specs.Prelude.{Option as Rust·Option, Some, None}
 use Rattle.bch.specs.Code.{Code, word_length}
 use Rattle.bch.proofs.codes.Settings.{Lawful}
-use Rattle.chase.specs.Soft.{Answer, Candidate, sure, answer, settled, better, candidate, tried, search_from, soft_stage}
+use Rattle.chase.specs.Soft.{Candidate, sure, answer, settled, better, candidate, tried, search_from, soft_stage}
 use Rattle.chase.specs.Word.{Symbols}
 use Rattle.chase.proofs.search.Passing.{BestBacked, backed_none, backed_tried, step_far}
 use Rattle.chase.proofs.search.Steps.{search_start, skip, step_sure, step_on, step_end, better_first, better_nearer, better_kept}

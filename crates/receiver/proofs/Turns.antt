@@ -11,9 +11,9 @@ use mathlib.Core.Option.{none, some, map}
 use lib.ListN.{length, get_or, take, replicate, length-replicate, length-take}
 use lib.Pow.{pow_mono, pow_pos}
 use lib.Seq.{length-take-le, get_or-take}
-use Rattle.std.specs.Prelude.{Option as Rust·Option, Some, None}
+use Rattle.std.specs.Prelude.{Some, None}
 use Rattle.bch.specs.Words.{Distinct, flipped_at}
-use Rattle.bch.specs.Code.{Code, design_distance}
+use Rattle.bch.specs.Code.{design_distance}
 use Rattle.bch.proofs.logarithms.LogAnswers.{syndromes_of}
 use Rattle.bch.proofs.decoding.Sorting.{distinct_below}
 use Rattle.bch.proofs.tables.Placing.{positions}
@@ -25,7 +25,7 @@ use Rattle.chase.proofs.test_words.Doublings.{Doubled, Holds, Small, size_most}
 use Rattle.chase.proofs.search.Ready.{Deep, packed_test, flipped_more, length_candidate}
 use Rattle.chase.proofs.search.Ready.{test_sums, test_weight, tests_first, tests_next, tests_small, unflipped_small}
 use Rattle.chase.proofs.search.Steps.{skip}
-use Rattle.chase.proofs.search.Tries.{try_parts, try_missed, try_placed, try_distinct, try_some}
+use Rattle.chase.proofs.search.Tries.{try_parts, try_missed, try_distinct, try_some}
 use Rattle.chase.proofs.weighing.Weights.{Weighs, packed_weight, weighs_small}
 use Rattle.refusal.specs.Named.{code_of}
 use Rattle.refusal.specs.declared.Code as refusal

@@ -1,6 +1,6 @@
 -- What the numbers of the search stand for, and when they are sound. Cited by the contracts of private functions alone.
 -- Assumes nothing.
-use Rattle.std.specs.Prelude.{ℕ, ◌-◌, ◌^◌, ◌≤◌, ◌<◌, ◌≡◌, Bool, true, false, List, ◌++◌, ltb, leb, length, drop, IfSome, Option as Rust·Option, Some, None}
+use Rattle.std.specs.Prelude.{ℕ, ◌-◌, ◌^◌, ◌≤◌, ◌<◌, ◌≡◌, Bool, true, false, List, ltb, leb, length, drop, IfSome, Option as Rust·Option, Some, None}
 use Rattle.std.proofs.Math.Bool.{cond}
 use Rattle.std.proofs.Math.Option.{Option, none, some}
 use Rattle.std.proofs.Math.IntN.{sub_ℕ}
@@ -22,9 +22,7 @@ use Rattle.receiver.specs.declared.search.Best.TheVariants.{Nothing, Fair, Sure}
 use Rattle.receiver.specs.declared.search.Outcome.{Outcome}
 use Rattle.receiver.specs.declared.Found.{Found}
 use Rattle.receiver.specs.declared.Mark.{Mark}
-use Rattle.receiver.specs.declared.Mark.TheVariants as Mark
 use Rattle.receiver.specs.declared.Soft.{Soft}
-use Rattle.receiver.specs.declared.Soft.TheVariants as Soft
 use Rattle.receiver.specs.Held.{code_in}
 use Rattle.receiver.specs.Located.{flips_of}
 

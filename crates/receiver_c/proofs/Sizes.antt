@@ -6,8 +6,8 @@ use lib.Ieee.{Float}
 use lib.ListN.{length, get_or}
 use lib.Pow.{pow_mono}
 use lib.Signed.{mag}
-use mathlib.Core.Path.{◌≡◌, refl, sym, ap, ◌∙◌, subst}
-use mathlib.Core.Logic.{◌⊎◌, inl, inr}
+use mathlib.Core.Path.{◌≡◌, refl, sym, subst}
+use mathlib.Core.Logic.{inl, inr}
 use mathlib.Core.List.{List, []}
 use mathlib.Core.Option.{Option, none, some}
 use Rattle.bch.specs.Code.{Code, word_length}

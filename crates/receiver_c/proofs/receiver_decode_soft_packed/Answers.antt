@@ -1,5 +1,4 @@
 -- What the soft stage answers, packed. Assumes nothing.
-use native.Mathlib.Omega.{arith}
 use mathlib.Core.Path.{ap, ◌∙◌}
 use Rattle.bch.specs.Code.{code}
 use Rattle.chase.specs.Soft.{lost_answer}
