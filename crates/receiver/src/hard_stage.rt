@@ -28,7 +28,7 @@ fn where_set(bit: u8, x: u32) -> u32
 }
 
 // The first t syndromes, in one number, of the bits that stand `shift` high in the bytes of a word: 0 for bits, 4 for symbols. In one
-// pass without branches. (By an index: of a `zip` of the bytes and the powers the compiler takes one position at a time.)
+// pass without branches.
 pub fn syndromes(field: &Field, word: &[u8], shift: u8) -> u32
     requires { (length word.now ≡ field.now.code.n) × (shift < 8) × Bits (bits_at shift word.now) }
     ensures { result ≡ syndromes_of (code_of field.now.code) (bits_at shift word.now) }

@@ -1,12 +1,11 @@
 -- What is left to flip makes of the bits what all flips make of them. Assumes nothing.
-use Prim.Native.Nat.{ℕ, ◌<◌}
+use Prim.Native.Nat.{ℕ}
 use mathlib.Core.Path.{◌≡◌, ap, sym, ◌∙◌}
-use mathlib.Core.List.{List}
 use native.Mathlib.Omega.{arith}
-use lib.ListN.{length, get_or, drop, take}
+use lib.ListN.{length, drop}
 use lib.Seq.{drop-length}
 use Rattle.std.proofs.lemmas.List.{at_drop_more}
-use Rattle.bch.proofs.codes.Behind.{length_from, bits_from, flipped_from}
+use Rattle.bch.proofs.codes.Behind.{bits_from, flipped_from}
 use Rattle.bch.proofs.codes.Entries.{below_in}
 use Rattle.receiver.specs.Located.{flips_of}
 use Rattle.receiver.proofs.hard_stage.flip_at.Goals as goal
