@@ -10,8 +10,8 @@ use receiver::{Flips, Found, Mark, Totals};
 use refusal::Refusal;
 use takes::Header;
 
-// A refusal's number, and its place, or the largest number of 56 bits where that is less. (`as`, here and below: no `From` goes from usize
-// to u64.)
+// A refusal's number, and its place, or the largest number of 56 bits where that is less. (`as`, here and below, since no `From` goes from
+// usize, i32 or a mark to u64; a `try_from` would have a case that can't be.)
 pub fn refusal(r: Refusal) -> u64
     ensures { result ≡ refusal_packed (refusal_of r) }
 {

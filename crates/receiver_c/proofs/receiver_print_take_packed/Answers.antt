@@ -14,14 +14,10 @@ totals-requires c =
     let bs = a.take.now in
     strip_totals bs a.strip.now _ c.in-Ok.ensures.answer (few_words bs (omega (arith, c.type_inv.take 0)) (omega (arith, c.type_inv.take 1)))
 
-pub returns-in-Ok : goal.returns-in-Ok
+pub returns-in-Ok-clause-answer : goal.returns-in-Ok-clause-answer
 unfolding answer_of take_packed
-returns-in-Ok c =
-    let printed = c.in-Ok.ensures in
-    record { answer = c.totals.ensures ∙ ap take_packed printed.answer; strip = printed.strip }
+returns-in-Ok-clause-answer c = c.totals.ensures ∙ ap take_packed c.in-Ok.ensures.answer
 
-pub returns-in-Err : goal.returns-in-Err
+pub returns-in-Err-clause-answer : goal.returns-in-Err-clause-answer
 unfolding answer_of take_packed
-returns-in-Err c =
-    let printed = c.in-Err.ensures in
-    record { answer = c.refusal.ensures ∙ ap take_packed printed.answer; strip = printed.strip }
+returns-in-Err-clause-answer c = c.refusal.ensures ∙ ap take_packed c.in-Err.ensures.answer

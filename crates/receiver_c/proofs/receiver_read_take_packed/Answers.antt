@@ -14,26 +14,20 @@ totals-requires c =
     let promise = c.in-Ok.ensures.promise _ refl in
     totals_room bs _ _ _ promise (few_words bs (omega (arith, c.type_inv.take 0)) (omega (arith, c.type_inv.take 1)))
 
-pub returns-in-Err : goal.returns-in-Err
+pub returns-in-Ok-clause-answer : goal.returns-in-Ok-clause-answer
 unfolding answer_of take_packed
-returns-in-Err c =
-    let read = c.in-Err.ensures in
-    record {
-      answer = c.refusal.ensures ∙ ap take_packed read.answer;
-      messages = read.messages;
-      marks = read.marks;
-      promise = refusal_promise _ _ _ _ _ (number_small c.in-Err.r.cause) c.refusal.ensures;
-    }
+returns-in-Ok-clause-answer c = c.totals.ensures ∙ ap take_packed c.in-Ok.ensures.answer
 
-pub returns-in-Ok : goal.returns-in-Ok
-unfolding answer_of take_packed
-returns-in-Ok c =
+pub returns-in-Ok-clause-promise : goal.returns-in-Ok-clause-promise
+unfolding answer_of
+returns-in-Ok-clause-promise c =
     let bs = c.args.take.now in
-    let read = c.in-Ok.ensures in
-    let promise = read.promise _ refl in
-    record {
-      answer = c.totals.ensures ∙ ap take_packed read.answer;
-      messages = read.messages;
-      marks = read.marks;
-      promise = totals_promise _ _ _ _ _ promise (few_words bs (omega (arith, c.type_inv.take 0)) (omega (arith, c.type_inv.take 1))) c.totals.ensures;
-    }
+    let promise = c.in-Ok.ensures.promise _ refl in
+    totals_promise _ _ _ _ _ promise (few_words bs (omega (arith, c.type_inv.take 0)) (omega (arith, c.type_inv.take 1))) c.totals.ensures
+
+pub returns-in-Err-clause-answer : goal.returns-in-Err-clause-answer
+unfolding answer_of take_packed
+returns-in-Err-clause-answer c = c.refusal.ensures ∙ ap take_packed c.in-Err.ensures.answer
+
+pub returns-in-Err-clause-promise : goal.returns-in-Err-clause-promise
+returns-in-Err-clause-promise c = refusal_promise _ _ _ _ _ (number_small c.in-Err.r.cause) c.refusal.ensures
