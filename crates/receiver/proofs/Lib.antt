@@ -1,4 +1,5 @@
 pub mod Called
+pub mod Flipping
 pub mod HighBits
 pub mod Locating
 pub mod Marks

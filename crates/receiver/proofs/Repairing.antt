@@ -1,36 +1,33 @@
 -- What is located is where the hard stage flips a word, and what its answer then is. Assumes nothing.
-use Prim.Native.Nat.{ℕ, ◌+◌, ◌%◌, ◌^◌, ◌≤◌, ◌<◌}
+use Prim.Native.Nat.{ℕ, ◌%◌, ◌<◌}
 use native.Mathlib.Omega.{arith}
 use mathlib.Core.Path.{◌≡◌, refl, ap, ap₂, sym, subst, ◌∙◌}
 use mathlib.Core.Logic.{inr}
 use mathlib.Core.List.{List, [], ◌∷◌}
 use mathlib.Core.Option.{Option, some}
 use lib.Bits.{bit_xor}
-use lib.ListN.{length, take}
+use lib.ListN.{length}
 use lib.Seq.{length-take-le}
-use Rattle.std.specs.Prelude.{Option as Rust·Option, Some, None, Ok, Err, is_some}
+use Rattle.std.specs.Prelude.{Option as Rust·Option, Some, None, Ok, is_some}
 use Rattle.bch.specs.Words.{Below, Bits}
-use Rattle.bch.specs.Code.{code}
-use Rattle.bch.specs.Hard.{Repair, hard_stage, hard_written, three_places}
+use Rattle.bch.specs.Hard.{Repair, hard_stage, hard_written}
 use Rattle.bch.proofs.codes.Behind.{flipped_from, flipped_whole}
 use Rattle.bch.proofs.decoding.Elements.{if_zero}
 use Rattle.bch.proofs.decoding.KappaSums.{within}
 use Rattle.bch.proofs.tables.CodeTables.{log_in, powers_in}
 use Rattle.bch.proofs.tables.Placing.{positions}
 use Rattle.bch.proofs.logarithms.FewRepairs.{few_repairs, few_placed}
-use Rattle.bch.proofs.logarithms.LogAnswers.{syndromes_of, syndromes_in, repairs_in, found_placed}
-use Rattle.bch.proofs.logarithms.LogBounds.{Syndromes}
+use Rattle.bch.proofs.logarithms.LogAnswers.{syndromes_of, repairs_in, found_placed}
 use Rattle.bch.proofs.logarithms.LogLocator.{rising_in}
 use Rattle.bch.proofs.logarithms.Repairs.{lost_answer_lem, found_answer}
 use Rattle.bch.proofs.logarithms.Seeking.{next_one}
 use Rattle.take_format.specs.Calls.{found, flipped_in, hard_record}
-use Rattle.refusal.specs.Named.{code_of, Made}
+use Rattle.refusal.specs.Named.{code_of}
 use Rattle.refusal.specs.declared.Code as struct
 use Rattle.receiver.specs.declared.flips.Flips.{Flips}
 use Rattle.receiver.specs.Answer.{hard_of}
-use Rattle.receiver.specs.Located.{Located, Sought, Repaired, flips_of, count_of, places_in, bits_at}
+use Rattle.receiver.specs.Located.{Located, Sought, Repaired, flips_of, count_of, places_in}
 use Rattle.receiver.specs.Tables.{Fielded, Filled}
-use Rattle.receiver.proofs.HighBits.{low_bits}
 use Rattle.receiver.proofs.Placed.{flips_long, placed_below}
 
 module _ (c : struct.Code) (xs : List ℕ) (s : ℕ) (ts : List ℕ) (long : length xs ≡ c.n) (bits : Bits xs) (is : s ≡ syndromes_of (code_of c) xs) where

@@ -1,6 +1,6 @@
 -- The positions that are located. Cited by the contracts of private functions alone. Assumes nothing.
-use Rattle.std.specs.Prelude.{ℕ, ◌/◌, ◌%◌, ◌^◌, ◌≤◌, ◌<◌, ◌≡◌, List, [], map, length, get_or, take, is_some, IfSome, Option as Rust·Option, Some, None}
-use Rattle.std.proofs.Math.Option.{Option, some, none}
+use Rattle.std.specs.Prelude.{ℕ, ◌/◌, ◌%◌, ◌^◌, ◌<◌, ◌≡◌, List, [], map, length, get_or, take, is_some, IfSome, Option as Rust·Option, Some, None}
+use Rattle.std.proofs.Math.Option.{Option}
 use Rattle.bch.specs.Words.{Bits, Below}
 use Rattle.bch.proofs.logarithms.LogSteps.{Ordered}
 use Rattle.bch.proofs.logarithms.LogAnswers.{syndromes_of}

@@ -56,6 +56,7 @@ fn located(c: Code, numbers: &mut [u32], s: u32) -> Option<Flips>
 }
 
 // Flips the bit at position x, in the bits of a word from `from` on.
+#[tactic(auto, using(crate::proofs::Flipping::flipping))]
 pub fn flip(out: &mut [u8], from: usize, x: usize)
     requires { Bits out.old × (x < from + length out.old) }
     ensures { out.new ≡ flip_from from x out.old }
@@ -67,6 +68,7 @@ pub fn flip(out: &mut [u8], from: usize, x: usize)
 }
 
 // Flips the bits at the positions.
+#[tactic(auto, using(crate::proofs::Flipping::flipping), unfolding(bch::proofs::codes::Behind::flipped_from))]
 pub fn flip_at(out: &mut [u8], from: usize, f: &Flips)
     requires { Bits out.old × Below (from + length out.old) (flips_of f.now) }
     ensures { out.new ≡ flipped_from from (flips_of f.now) out.old }

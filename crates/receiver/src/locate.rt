@@ -16,8 +16,8 @@
 // Each function is a step of the locator that is defined by logarithms, and rests on that step's law (bch `LogSteps`).
 #![tactic(auto, using(crate::proofs::Locating::steps), unfolding(bch::specs::Hard::three_places, bch::proofs::tables::Placing::positions, bch::proofs::decoding::Sorting::sorted))]
 
-ghost use Rattle.std.specs.Prelude.{◌≡◌, ◌≢◌, [], ◌∷◌, ◌+◌, ◌-◌, ◌*◌, ◌/◌, ◌%◌, ◌<◌, ◌≤◌, ◌^◌, length};
-ghost use Rattle.std.proofs.Math.Option.{none, some};
+ghost use Rattle.std.specs.Prelude.{◌≡◌, ◌≢◌, [], ◌∷◌, ◌-◌, ◌%◌, ◌<◌, ◌≤◌, ◌^◌, length};
+ghost use Rattle.std.proofs.Math.Option.{some};
 ghost use Rattle.std.specs.Int.Bits.{bit_xor};
 ghost use Rattle.bch.proofs.decoding.Elements.{if_zero};
 ghost use Rattle.bch.proofs.decoding.KappaSums.{within};
