@@ -1,4 +1,5 @@
 // What a candidate weighs: its flips q, its distance L and its allowance A.
+ghost use Rattle.std.specs.List.{list_any};
 ghost use Rattle.std.specs.Prelude.{◌≡◌, ◌++◌, ◌-◌, ◌%◌, ◌<◌, ◌≤◌, eqb, length, get_or, take};
 ghost use Rattle.bch.specs.Words.{is_in, Distinct, flipped_at};
 ghost use Rattle.chase.specs.Soft.{hard_bits, reliabilities};
@@ -102,16 +103,11 @@ impl<'a> Ranked<'a> {
     }
 }
 
-// Whether x is one of the positions. (Written out by their number: a slice of them is a loop, which takes up to a tenth longer where t is 3.)
+// Whether x is one of the positions.
 fn is_among(f: &Flips, x: usize) -> bool
-    ensures { result ≡ is_in x (flips_of f.now) }
+    ensures { result ≡ list_any (λ y. eqb x y) (flips_of f.now) }
 {
-    match f.count {
-        0 => false,
-        1 => x == f.at[0],
-        2 => x == f.at[0] || x == f.at[1],
-        _ => x == f.at[0] || x == f.at[1] || x == f.at[2],
-    }
+    f.at[..f.count].iter().any(|y| x == *y)
 }
 
 // Whether a candidate flips position x: where it is one of those located, or the test word flips it, which the lowest bit of r tells, and not
