@@ -4,7 +4,7 @@ use Rattle.std.proofs.Common.{◌++◌, length, take, drop, min, refl, sym, ap, 
 use native.Mathlib.Decide.{dec_lt}
 use native.Mathlib.Numerals.{add-one}
 use mathlib.Core.List.{append_assoc, append-nil}
-use lib.ListN.{length-take, length-drop, length-append, take-append-drop, get_or, set}
+use lib.ListN.{length-set, length-take, length-drop, length-append, take-append-drop, get_or, set}
 use lib.Seq.{drop-drop, take_all, take-suc-set}
 use borrow.Rule.Slice.PartMut.{put_mid}
 use Rattle.std.proofs.lemmas.Slice.{take-put_mid, drop-put_mid}
@@ -14,6 +14,7 @@ use Rattle.bch.proofs.codes.Entries.{below_at}
 use Rattle.listing.specs.Text.{bits_text}
 use Rattle.listing.specs.Takelist.{over}
 use Rattle.listing.specs.declared.text.Text.{Text}
+use Rattle.listing.specs.Put.{Put}
 use Rattle.listing.specs.Written.{written, left, Written}
 
 -- what has room is copied
@@ -48,13 +49,13 @@ stored bs at c h =
 pub said : {a b : List ℕ} {old now : Text} → Written old a now → a ≡ b → Written old b now
 said {a} {b} {old} {now} p e = subst (λ (t : List ℕ). Written old t now) e p
 
+take-nil : (n : ℕ) → ◌≡◌ {A = List ℕ} (take n []) []
+take-nil zero = refl
+take-nil (suc n) = refl
+
 -- none
 pub nothing : (t : Text) → Written t [] t
 nothing t = record { same = refl; text = sym (rw (take-nil (length (left t))) (append-nil (written t))); rest = refl }
-  where
-    take-nil : (n : ℕ) → ◌≡◌ {A = List ℕ} (take n []) []
-    take-nil zero = refl
-    take-nil (suc n) = refl
 
 less : (n m : ℕ) → suc n - suc m ≡ n - m
 less n m = omega arith
@@ -80,6 +81,48 @@ then {a} {b} {old} {mid} {now} p q =
           q.rest ∙ ap (λ (t : List ℕ). drop (length b) t) p.rest ∙ drop-drop (length b) (length a) (left old)
           ∙ ap (λ (k : ℕ). drop k (left old)) (sym (length-append a b));
     }
+
+-- and so at a place of a list
+pub put_then : {a b old mid now : List ℕ} {at next end : ℕ} → Put old at a mid next → Put mid next b now end → Put old at (a ++ b) now end
+put_then {a} {b} {old} {mid} {now} {at} {next} {end} p q =
+    let n = length (drop at old) in
+    let room : length (drop next mid) ≡ n - length a = ap length p.rest ∙ length-drop (length a) (drop at old) in
+    record {
+      text =
+          q.text ∙ ap₂ (λ (t : List ℕ) (k : ℕ). t ++ take k b) p.text room
+          ∙ append_assoc (take at old) (take n a) (take (n - length a) b) ∙ ap (λ (t : List ℕ). take at old ++ t) (take_both n a b);
+      rest =
+          q.rest ∙ ap (λ (t : List ℕ). drop (length b) t) p.rest ∙ drop-drop (length b) (length a) (drop at old)
+          ∙ ap (λ (k : ℕ). drop k (drop at old)) (sym (length-append a b));
+      inside = q.inside;
+    }
+
+pub put_said : {a b old now : List ℕ} {at end : ℕ} → Put old at a now end → a ≡ b → Put old at b now end
+put_said {a} {b} {old} {now} {at} {end} p e = subst (λ (t : List ℕ). Put old at t now end) e p
+
+pub put_at : {a old mid mid' : List ℕ} {at next next' : ℕ} → mid ≡ mid' → next ≡ next' → Put old at a mid' next' → Put old at a mid next
+put_at {a} {old} {mid} {mid'} {at} {next} {next'} e f p =
+    subst (λ (k : ℕ). Put old at a mid k) (sym f) (subst (λ (m : List ℕ). Put old at a m next') (sym e) p)
+
+pub put_none : (bs : List ℕ) (at : ℕ) → at ≤ length bs → Put bs at [] bs at
+put_none bs at h = record { text = sym (rw (take-nil (length (drop at bs))) (append-nil (take at bs))); rest = refl; inside = h }
+
+-- a character has room, or not
+pub put_one : (bs : List ℕ) (at c : ℕ) → at < length bs → Put bs at (c ∷ []) (set bs at c) (at + 1)
+put_one bs at c h = let s = stored bs at c h in record { text = s.0; rest = s.1; inside = omega (arith, h, length-set bs at c) }
+
+pub put_full : (bs : List ℕ) (at c : ℕ) → at ≡ length bs → Put bs at (c ∷ []) bs at
+put_full bs at c h =
+    let none : drop at bs ≡ [] = drop_all at bs (omega (arith, h)) in
+    record {
+      text = sym (ap (λ (r : List ℕ). take at bs ++ take (length r) (c ∷ [])) none ∙ append-nil (take at bs));
+      rest = none ∙ sym (ap (drop 1) none);
+      inside = omega (arith, h);
+    }
+
+-- what is put at the end of a text is written
+pub put_written : {t u : Text} {a : List ℕ} → u.bytes.ghost_name ≡ t.bytes.ghost_name → Put t.bytes.now t.at a u.bytes.now u.at → Written t a u
+put_written e p = record { same = e; text = p.text; rest = p.rest }
 
 -- a text that has room stands at its buffer's front, and the rest is as it was
 pub whole : (old now : Text) (all : List ℕ) → old.at ≡ 0 → Written old all now → length all ≤ length old.bytes.now → now.at ≤ length now.bytes.now

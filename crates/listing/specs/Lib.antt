@@ -3,3 +3,4 @@ pub mod Takelist
 pub mod Written
 pub mod Shown
 pub mod Rows
+pub mod Put

@@ -1,5 +1,5 @@
 -- The number goes down with each digit. Assumes nothing.
-use Rattle.listing.proofs.text.Text.+digits.Given as goal
+use Rattle.listing.proofs.text.+digits.Given as goal
 
 abbrev pub decreases-digits : goal.decreases-digits
 decreases-digits l = l.x

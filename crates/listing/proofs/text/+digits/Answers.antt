@@ -1,0 +1,33 @@
+-- The digits of a tenth, where there are any, and one behind them. Assumes nothing.
+use Rattle.std.proofs.Common.{ℕ, ◌+◌, ◌%◌, arith, ap, length, ◌≡◌, ◌≤◌, ◌<◌}
+use native.Mathlib.Decide.{dec_lt}
+use mathlib.Core.Logic.{◌≢◌}
+use Rattle.listing.proofs.Texts.{put_then, put_said, put_at, put_none, put_one, put_full}
+use Rattle.listing.proofs.Decimals.{decimal_small, decimal_more}
+use Rattle.listing.proofs.text.+digits.Goals.{then-x-ge10, else-x-ge10}
+use Rattle.listing.proofs.text.+digits.Goals as goal
+
+pub returns-then-next-bytes : goal.returns-then-next-bytes
+returns-then-next-bytes t c =
+    let x = c.args.x in
+    let last = put_full c.if-x-ge10.bytes c.if-x-ge10.next (48 + x % 10) c.if-next-bytes.true in
+    elim c.if-x-ge10.branch [
+      | then-x-ge10 w ↦ put_said (put_then (put_at w.bytes-is w.next-is w.digits-next.ensures) last) (decimal_more x w.if-x-ge10.true (omega arith))
+      | else-x-ge10 w ↦ put_said (put_then (put_at w.bytes-is w.next-is (put_none c.args.bytes.now c.args.at c.requires)) last) (decimal_small x w.if-x-ge10.false)
+    ]
+
+lt_of : (m n : ℕ) → m ≤ n → m ≢ n → m < n
+lt_of m n h e = elim (dec_lt m n) [
+  | yes l ↦ l
+  | no l ↦ let z : m ≡ n = omega arith in absurd (e z)
+]
+
+pub returns : goal.returns
+returns t c =
+    let x = c.args.x in
+    let last = λ (l : c.if-x-ge10.next ≤ length c.if-x-ge10.bytes). put_one c.if-x-ge10.bytes c.if-x-ge10.next (48 + x % 10)
+    (lt_of c.if-x-ge10.next (length c.if-x-ge10.bytes) l c.if-next-bytes.false) in
+    elim c.if-x-ge10.branch [
+      | then-x-ge10 w ↦ put_said (put_then (put_at w.bytes-is w.next-is w.digits-next.ensures) (last (omega (arith, ap length w.bytes-is, w.next-is, w.digits-next.ensures.inside)))) (decimal_more x w.if-x-ge10.true (omega arith))
+      | else-x-ge10 w ↦ put_said (put_then (put_at w.bytes-is w.next-is (put_none c.args.bytes.now c.args.at c.requires)) (last (omega (arith, ap length w.bytes-is, w.next-is, c.requires)))) (decimal_small x w.if-x-ge10.false)
+    ]
