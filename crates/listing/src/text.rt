@@ -70,8 +70,8 @@ impl<'a> Text<'a> {
     }
 }
 
-// The digits of a number at a place; answers where they end. (They are put by hand, and not through the text: `itoa` writes them into a buffer of
-// its own, from which they are then copied, and so the listing of a take of 1,000 words took 8 percent longer.)
+// The digits of a number at a place; answers where they end. (They are put by hand, and not through the text. `itoa` writes them into a buffer of
+// its own, from which they are then copied: a listing of 1,000 words took 2 percent longer so, and 4 percent with a text's `character` for each.)
 fn digits(bytes: &mut [u8], at: usize, x: usize) -> usize
     requires { at ≤ length bytes.old }
     ensures { Put bytes.old at (decimal x) bytes.new result }
