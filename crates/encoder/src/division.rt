@@ -53,7 +53,7 @@ fn parity(r: usize, g: u32, message: &[u8]) -> u32
     register
 }
 
-// Writes the register's lowest bits, bit i at position i.
+// Writes the register's lowest bits, bit i at position i. (`as`: no `From` goes to fewer bits.)
 fn write_parity(register: u32, parity: &mut [u8])
     ensures { parity.new ≡ word (length parity.old) register }
 {

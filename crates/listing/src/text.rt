@@ -59,7 +59,7 @@ impl<'a> Text<'a> {
         self.character(behind);
     }
 
-    // The same with a hyphen before a negative one.
+    // The same with a hyphen before a negative one. (`as`, here and below: no `From` goes from 32 bits to usize, or to fewer bits.)
     pub(crate) fn signed(&mut self, x: i32, behind: u8)
         ensures { Written self.old (Text·signed x ++ (behind ∷ [])) self.new }
     {

@@ -22,8 +22,12 @@
 // adds up the syndromes S1, S3, S5 (`hard_stage`), finds the positions to flip (`locate`) and only then writes. The soft stage ranks the
 // symbols (by the crate `ranking`; `least_keys`), has the syndromes and the weights of test words without writing them out (`test_words`),
 // locates and weighs one test word after the other (`search`, `weighing`) and only then writes (`soft_stage`). Several words share their tables
-// (`all_words`). What has a `requires` is in private modules, so that this is one crate: to split it would make such functions public. (Modules
-// `hard`, `soft` and `words` would differ only in case from the enums, which is refused.)
+// (`all_words`). What has a `requires` is in private modules, so that this is one crate: to split it would make such functions public. What the
+// check has made sure of is handed on as clauses, up to the types that hold it (`Field`, `Ranked`): `Code` has public fields, and a type around
+// it would be made in one place and taken apart in the next.
+//
+// (Modules `hard`, `soft` and `words` would differ only in case from the enums, which is refused. Numbers are cast by `as` where no `From`
+// goes: from 32 bits to usize, to fewer bits, and of an enum.)
 #![tactic(auto)]
 
 ghost use Rattle.std.specs.Prelude.{◌≡◌, []};

@@ -38,7 +38,7 @@ pub enum Cause {
 }
 
 impl Cause {
-    // Its number.
+    // Its number. (`as`: no `From` goes from an enum's cases to their numbers.)
     pub fn number(self) -> usize
         ensures value { result ≡ number_of self }
         ensures bounds { (1 ≤ result) × (result ≤ 14) }

@@ -1,4 +1,4 @@
-// The words of a line: numbers, bytes and floats.
+// The words of a line: numbers, bytes and floats. (`as`, here and in `weights`: no `From` goes to fewer bits.)
 ghost use Rattle.std.specs.Prelude.{◌<◌};
 
 use std::num::f32_from_bits_with_nan;
