@@ -5,6 +5,13 @@ ghost use Rattle.std.specs.Prelude.{◌≤◌, length, IfOk};
 
 use std::io::{self, Read, Write};
 
+// What a program prints for its input.
+pub trait Filter {
+    // Writes it to the front of a buffer, and answers how far.
+    fn print(input: &[u8], text: &mut [u8; 900000]) -> usize
+        ensures { result ≤ length text.new };
+}
+
 // Reads until the buffer is full or the input ends, and answers how many bytes that are. (A `while`: a turn reads as many as there are. The
 // library reads to the end only into a `Vec`, and what allocates nothing is not to begin.)
 pub fn read_full(input: &mut impl Read, buffer: &mut [u8]) -> io::Result<usize>
@@ -21,17 +28,12 @@ pub fn read_full(input: &mut impl Read, buffer: &mut [u8]) -> io::Result<usize>
     Ok(done)
 }
 
-// Prints what `print` writes for the input: it fills the front of a buffer, and answers how far. One byte more is read than the programs
-// accept, so that longer input is told apart. (The `requires` is what a call of `print` asks.)
-pub fn run<R: Input + Print, F: FnOnce(&[u8], &mut [u8; 900000]) -> usize>(
-    rt: &R,
-    print: F,
-) -> io::Result<()>
-    requires { F.IsAlwaysCallable print }
-{
+// Prints what the program prints for the whole of standard input. One byte more is read than the programs accept, so that longer input is told
+// apart.
+pub fn run<F: Filter>(rt: &(impl Input + Print)) -> io::Result<()> {
     let mut input = [0; 65537];
     let mut text = [0; 900000];
     let got = read_full(&mut rt.reader(), &mut input)?;
-    let length = print(&input[..got], &mut text);
-    rt.write_all(&text[..length.min(900000)])
+    let length = F::print(&input[..got], &mut text);
+    rt.write_all(&text[..length])
 }

@@ -3,7 +3,7 @@ ghost use Rattle.std.specs.Prelude.{◌<◌};
 
 use std::num::f32_from_bits_with_nan;
 
-// The value of a hex digit.
+// The value of a hex digit. (By hand: what is no digit counts as 0, where `parse` would refuse.)
 fn digit(byte: u8) -> u8
     ensures { result < 16 }
 {
@@ -14,20 +14,12 @@ fn digit(byte: u8) -> u8
     }
 }
 
-// The number that hex digits give, modulo 2^32.
-fn hex(digits: &[u8]) -> u32 {
-    digits.iter().fold(
-        0,
-        |value: u32, byte| value.wrapping_mul(16).wrapping_add(u32::from(digit(*byte))),
-    )
-}
-
-// The number that decimal digits give, modulo 2^64.
-fn decimal(digits: &[u8]) -> usize {
+// The number that digits give in a base, modulo 2^64.
+fn number(base: usize, digits: &[u8]) -> usize {
     digits.iter().fold(
         0,
         |value: usize, byte| value
-            .wrapping_mul(10)
+            .wrapping_mul(base)
             .wrapping_add(usize::from(digit(*byte))),
     )
 }
@@ -52,7 +44,7 @@ impl<'a> Line<'a> {
 
     // The number that is word `index`.
     pub fn number(self, index: usize) -> usize {
-        decimal(self.word(index))
+        number(10, self.word(index))
     }
 
     // Words 1 to 3: m, t and n.
@@ -70,23 +62,36 @@ impl<'a> Line<'a> {
         &mut buffer[..length]
     }
 
-    // The bytes that are word `index`, as many as the buffer has room for.
-    pub fn bytes<'b>(self, index: usize, buffer: &'b mut [u8]) -> &'b [u8] {
+    // Reads word `index` into the buffer, so many digits for each value, as many values as it has room for.
+    fn values<'b, T: Copy, F: Fn(usize) -> T>(
+        self,
+        index: usize,
+        width: usize,
+        buffer: &'b mut [T],
+        value: F,
+    ) -> &'b [T]
+        requires { (0 < width) × F.IsAlwaysCallable value }
+    {
         let digits = self.word(index);
-        let count = (digits.len() / 2).min(buffer.len());
-        for i in 0..count {
-            buffer[i] = (hex(&digits[2 * i..2 * i + 2]) & 0xff) as u8;
+        let count = (digits.len() / width).min(buffer.len());
+        for (place, digits) in buffer.iter_mut().zip(digits.chunks_exact(width)) {
+            *place = value(number(16, digits));
         }
         &buffer[..count]
     }
 
-    // The floats whose patterns are word `index`, as many as the buffer has room for.
+    // The bytes that are word `index`.
+    pub fn bytes<'b>(self, index: usize, buffer: &'b mut [u8]) -> &'b [u8] {
+        self.values(index, 2, buffer, |value| (value & 0xff) as u8)
+    }
+
+    // The floats whose patterns are word `index`.
     pub fn floats<'b>(self, index: usize, buffer: &'b mut [f32]) -> &'b [f32] {
-        let digits = self.word(index);
-        let count = (digits.len() / 8).min(buffer.len());
-        for i in 0..count {
-            buffer[i] = f32_from_bits_with_nan(hex(&digits[8 * i..8 * i + 8]));
-        }
-        &buffer[..count]
+        self.values(
+            index,
+            8,
+            buffer,
+            |value| f32_from_bits_with_nan((value & 0xffff_ffff) as u32),
+        )
     }
 }

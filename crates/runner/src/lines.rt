@@ -40,7 +40,8 @@ fn run(out: &mut impl Write, line: Line, totals: Totals) -> io::Result<Totals> {
     Ok(totals)
 }
 
-// Runs each line that ends within the text, and answers the totals then and where the next line begins.
+// Runs each line that ends within the text, and answers the totals then and where the next line begins. (A `while`: `split` also gives a last
+// line that does not end, and not where it begins.)
 fn run_lines(out: &mut impl Write, text: &[u8], before: Totals) -> io::Result<(Totals, usize)>
     ensures { IfOk result (λ r. r.1 ≤ length text.now) }
 {

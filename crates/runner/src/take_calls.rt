@@ -55,12 +55,23 @@ pub fn read(out: &mut impl Write, line: Line) -> io::Result<()> {
     print::last(out, marks)
 }
 
-// The record `list TAKE`.
-pub fn list(out: &mut impl Write, line: Line) -> io::Result<()> {
+// Prints the text of a program for the take that is word 1 of the line.
+fn text<F: FnOnce(&[u8], &mut [u8; 900000]) -> usize>(
+    out: &mut impl Write,
+    line: Line,
+    program: F,
+) -> io::Result<()>
+    requires { F.IsAlwaysCallable program }
+{
     let mut take = [0; TAKE];
     let mut output = [0; 900000];
-    let length = listing::list(line.bytes(1, &mut take), &mut output);
+    let length = program(line.bytes(1, &mut take), &mut output).min(900000);
     out.write_all(&output[..length])
+}
+
+// The record `list TAKE`.
+pub fn list(out: &mut impl Write, line: Line) -> io::Result<()> {
+    text(out, line, listing::list)
 }
 
 // The record `length TAKE`.
@@ -84,8 +95,5 @@ pub fn lay(out: &mut impl Write, line: Line) -> io::Result<()> {
 
 // The record `strip TAKE`.
 pub fn strip(out: &mut impl Write, line: Line) -> io::Result<()> {
-    let mut take = [0; TAKE];
-    let mut output = [0; 900000];
-    let length = printing::print(line.bytes(1, &mut take), &mut output);
-    out.write_all(&output[..length])
+    text(out, line, printing::print)
 }

@@ -2,8 +2,17 @@
 // writes.
 #![tactic(auto)]
 
+use filter::Filter;
 use std::io;
 
+struct Strip;
+
+impl Filter for Strip {
+    fn print(input: &[u8], text: &mut [u8; 900000]) -> usize {
+        printing::print(input, text)
+    }
+}
+
 fn main(rt: HostRuntime) -> io::Result<()> {
-    filter::run(&rt, printing::print)
+    filter::run::<Strip>(&rt)
 }

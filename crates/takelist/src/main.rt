@@ -2,8 +2,17 @@
 // `listing::list` writes.
 #![tactic(auto)]
 
+use filter::Filter;
 use std::io;
 
+struct Takelist;
+
+impl Filter for Takelist {
+    fn print(input: &[u8], text: &mut [u8; 900000]) -> usize {
+        listing::list(input, text)
+    }
+}
+
 fn main(rt: HostRuntime) -> io::Result<()> {
-    filter::run(&rt, listing::list)
+    filter::run::<Takelist>(&rt)
 }
