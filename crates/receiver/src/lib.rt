@@ -161,7 +161,8 @@ impl Totals {
 
 // Decodes so many words of n symbols, one after the other, with tables that are filled once, and writes for each of them the k bytes of
 // its message (0 where it is lost) and a mark's byte, 0 lost, 1 fair, 2 sure. Any m, t, n, depth, symbols and buffers may be
-// handed in. (The count has 16 bits, as in a take's header: the products of the lengths then fit.)
+// handed in. (The count has 16 bits, as in a take's header: the products of the lengths then fit. Messages and marks are two buffers, as C lends
+// them.)
 pub fn decode_words(
     m: usize,
     t: usize,

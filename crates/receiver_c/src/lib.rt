@@ -69,6 +69,7 @@ pub extern "C" fn receiver_decode_soft_packed(
     match receiver::decode_soft(m, t, n, depth, symbols, codeword) {
         Ok(Soft::Sure(found)) => packed::answer(Mark::Sure, found),
         Ok(Soft::Fair(found)) => packed::answer(Mark::Fair, found),
+        // For C, a lost word's numbers are 0.
         Ok(Soft::Lost { tries }) => {
             let none = Found {
                 distance: 0,
@@ -146,7 +147,7 @@ pub extern "C" fn receiver_read_take_packed(
     }
 }
 
-// Answers how many bytes the strip of a take has.
+// Answers how many bytes the strip of a take has. (`as`, as in `packed`.)
 #[unsafe(no_mangle)]
 pub extern "C" fn receiver_strip_length_packed(take: &[u8]) -> u64
     ensures { result ≡ length_packed (length_answer take.now) }

@@ -18,7 +18,7 @@ ghost use Rattle.refusal.specs.Named.{named_of, named_by, record_of, code_of, Ma
 
 use std::fmt;
 
-// What is refused, by the number of document 01. (The names are those of the C header, without its prefix.)
+// What is refused, by the number of document 01. (The names are those of the C header, without its prefix and in camel case.)
 #[derive(Clone, Copy, Debug, PartialEq, Eq)]
 pub enum Cause {
     M = 1,
@@ -179,6 +179,7 @@ pub fn at_most_from(cause: Cause, most: u8, bytes: &[u8], start: usize) -> Resul
     if highest(rest) <= most {
         return Ok(());
     }
+    // (`None` can't be: the highest is above.)
     match first_above(most, rest) {
         Some(i) => Err(Refusal {
             cause,
@@ -257,7 +258,8 @@ pub fn of_message(
     Ok(c)
 }
 
-// Of one that takes a word's bits: 1, 2, 3, 6, 7, 8.
+// Of one that takes a word's bits: 1, 2, 3, 6, 7, 8. (Beside `of_message`, from which it differs in one length: a caller has no code yet to ask
+// for it.)
 pub fn of_word(m: usize, t: usize, n: usize, word: &[u8], room: usize) -> Result<Code, Refusal>
     ensures { named_of result ≡ named_by (code m t n) (bits_check (word_length (code m t n)) (word_length (code m t n)) word.now room) }
 {
