@@ -11,7 +11,7 @@ use lib.IntN.{ℤ, pos, negsuc, nat_abs}
 use lib.ListN.{length, length-append}
 use lib.Signed.{mag, lt_z}
 use Rattle.std.specs.Fmt as std
-use Rattle.std.proofs.lemmas.Fmt.{AppendsLastDigit, decimal_from_appends, decimal_digit, decimal_step, length-decimal-le}
+use Rattle.std.proofs.lemmas.Fmt.{AppendsLastDigit, decimal_from_appends, decimal_digit, length-decimal-le}
 use Rattle.listing.specs.Text.{digits, decimal, signed}
 
 -- the last digit stands behind those of a tenth
@@ -84,9 +84,9 @@ decimal_long zero x h = omega (arith, ap length (decimal_small x (omega arith)))
 decimal_long (suc n) x h = elim (dec_lt x 10) [
   | yes l ↦ omega (arith, ap length (decimal_small x l))
   | no l ↦ omega (
-      arith,
-      ap length (decimal_more x (omega arith)),
-      length-append (decimal (x / 10)) ((48 + x % 10) ∷ []),
-      decimal_long n (x / 10) (omega (arith, pow-succ' 10 (suc n))),
-    )
+    arith,
+    ap length (decimal_more x (omega arith)),
+    length-append (decimal (x / 10)) ((48 + x % 10) ∷ []),
+    decimal_long n (x / 10) (omega (arith, pow-succ' 10 (suc n))),
+  )
 ]
