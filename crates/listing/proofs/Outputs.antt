@@ -1,5 +1,5 @@
 -- Laws of the program's output: what it is for an input, and that it has room in its buffer. Assumes nothing.
-use Rattle.std.proofs.Common.{ℕ, zero, suc, ◌+◌, ◌*◌, ◌≤◌, ◌<◌, ◌≡◌, List, ◌++◌, length, refl, sym, ap, ◌∙◌, arith, inl, inr, ◌⊎◌}
+use Rattle.std.proofs.Common.{ℕ, zero, suc, ◌+◌, ◌*◌, ◌≤◌, ◌<◌, ◌≡◌, List, ◌++◌, length, drop, refl, sym, ap, ◌∙◌, arith, inl, inr, ◌⊎◌}
 use native.Mathlib.Nat.{suc-mul, mul-add, mul-le-mul, mul-le-mul_left}
 use native.Mathlib.Numerals.{add-one}
 use borrow.Author.Tests.{lt-ltb, le-ltb}
@@ -7,9 +7,9 @@ use lib.ListN.{length-append}
 use Rattle.bch.specs.Code.{word_length, message_length}
 use Rattle.bch.proofs.codes.Settings.{word_long}
 use Rattle.take_format.specs.Refusal.{Refusal}
-use Rattle.take_format.specs.Batch.{message, Totals}
-use Rattle.take_format.specs.Take.{Header, totals, open_answer}
-use Rattle.take_format.proofs.takes.Reading.{Reading, answer_at, is_code, whole, depth_most, small_at}
+use Rattle.take_format.specs.Batch.{message, answers_to, Totals, totals_of}
+use Rattle.take_format.specs.Take.{Header, answers, totals, open_answer}
+use Rattle.take_format.proofs.takes.Reading.{Reading, answer_at, totals_all, is_code, whole, depth_most, small_at}
 use Rattle.listing.specs.Text.{word_line, totals_line, refusal_line, too_long}
 use Rattle.listing.specs.Takelist.{line_at, lines_of, take_text, open_text, takelist}
 use Rattle.listing.specs.Rows.{rows, row_at}
@@ -29,13 +29,22 @@ module _ (bs : List ℕ) where
   unfolding open_text
   refused_input h r e = opened_input h (inl r) e
 
-  -- the lines of all words, and the totals
+  -- the lines of all words, and the totals: as what a header says has them ..
+  pub take_text_lem : (h : Header) → Reading bs h → lines_of h.code h.depth h.words (drop h.offset bs) ++ totals_line
+      (totals_of (answers_to h.code h.depth h.words (drop h.offset bs))) ≡ take_text bs
+  unfolding take_text totals answers
+  take_text_lem h ok =
+      ap (λ (x : Header). lines_of x.code x.depth x.words (drop x.offset bs) ++ totals_line
+      (totals_of (answers_to x.code x.depth x.words (drop x.offset bs)))) ok.read
+
+  -- .. and as rows
   pub take_input : length bs ≤ 65536 → (h : Header) (k : Totals) → open_answer bs ≡ inr h → k ≡ totals bs
       → rows word_line bs h h.words ++ totals_line k ≡ takelist bs
-  unfolding rows lines_of line_at open_text take_text
+  unfolding rows lines_of line_at open_text
   take_input short h k e t =
-      ap (λ (x : Totals). rows word_line bs h h.words ++ totals_line x) t
-      ∙ ap (λ (x : Header). rows word_line bs x x.words ++ totals_line (totals bs)) (reading bs h e).read ∙ opened_input short (inr h) e
+      let ok = reading bs h e in
+      ap (λ (x : Totals). rows word_line bs h h.words ++ totals_line x) (t ∙ sym (totals_all bs h ok))
+      ∙ take_text_lem h ok ∙ opened_input short (inr h) e
 
   -- a word has at least 6 symbols, so that all lines have room
   module _ (short : length bs ≤ 65536) (h : Header) (e : open_answer bs ≡ inr h) where
@@ -62,9 +71,12 @@ module _ (bs : List ℕ) where
           suc-mul w (message_length h.code + 81),
         )
 
-    pub lines_room : length (rows word_line bs h h.words) ≤ 899000
+    pub lines_room : h.words * (message_length h.code + 81) ≤ 899000
     lines_room =
         let n = word_length h.code in
         let five : 5 * 1 ≤ h.code.m * h.code.t = mul-le-mul {n₂ = h.code.m} {m₂ = h.code.t} (is_code bs h ok).m_least (is_code bs h ok).t_least in
         let most : h.words * (message_length h.code + 81) ≤ h.words * (n + 76) = mul-le-mul_left h.words (omega (arith, five, parity_fits bs h ok)) in
-        omega (arith, rows_long h.words (omega arith), most, six, mul-add h.words n 76, whole bs h ok, short)
+        omega (arith, most, six, mul-add h.words n 76, whole bs h ok, short)
+
+    pub rows_room : length (rows word_line bs h h.words) ≤ 899000
+    rows_room = omega (arith, rows_long h.words (omega arith), lines_room)

@@ -78,12 +78,12 @@ pub record Held (k : Totals) : Type 0 where
 
 -- a number that a machine holds
 held_long : (x : ℕ) → x < 2 ^ 64 → length (decimal x) ≤ 20
-held_long x h = decimal_long 19 x (omega (arith, h)) h
+held_long x h = decimal_long 19 x (omega (arith, h))
 
 margin_long : (z : ℤ) → mag z < 9999 → length (signed z) ≤ 5
 unfolding signed
-margin_long (pos n) h = let l : n < 9999 = h in omega (arith, decimal_long 3 n (omega arith) (omega arith))
-margin_long (negsuc n) h = let l : n < 9999 = h in omega (arith, decimal_long 3 (suc n) (omega arith) (omega arith))
+margin_long (pos n) h = let l : n < 9999 = h in omega (arith, decimal_long 3 n (omega arith))
+margin_long (negsuc n) h = let l : n < 9999 = h in omega (arith, decimal_long 3 (suc n) (omega arith))
 
 mark_long : (m : Mark) → length (mark_name m) ≡ 4
 unfolding mark_name ascii

@@ -4,7 +4,7 @@ use Rattle.std.proofs.Common.{◌++◌, length, take, drop, min, refl, sym, ap, 
 use native.Mathlib.Decide.{dec_lt}
 use native.Mathlib.Numerals.{add-one}
 use mathlib.Core.List.{append_assoc, append-nil}
-use lib.ListN.{length-set, length-take, length-drop, length-append, take-append-drop, get_or, set}
+use lib.ListN.{length-set, length-take, length-drop, length-append, take-append-drop, get_or, get_or-map, set}
 use lib.Seq.{drop-drop, take_all, take-suc-set}
 use borrow.Rule.Slice.PartMut.{put_mid}
 use Rattle.std.proofs.lemmas.Slice.{take-put_mid, drop-put_mid}
@@ -143,6 +143,11 @@ filled old now all z p h l =
 
 -- ---- bits
 
+-- each is a character by its own bit
+pub bits_at : (bs : List ℕ) (i : ℕ) → 48 + get_or bs i 0 ≡ get_or (bits_text bs) i 48
+unfolding bits_text
+bits_at bs i = sym (get_or-map (λ (b : ℕ). 48 + b) bs i 0)
+
 -- the first i are characters
 abbrev pub shown_to : ℕ → List ℕ → List ℕ
 shown_to i bits = bits_text (take i bits) ++ drop i bits
@@ -159,7 +164,7 @@ at_next [] i h = absurd (omega (arith, h))
 at_next (b ∷ bits) zero h = refl
 at_next (b ∷ bits) (suc i) h = at_next bits i (omega (arith, h))
 
-shown_more : (bits : List ℕ) (i : ℕ) → i < length bits → set (shown_to i bits) i (48 + get_or bits i 0) ≡ shown_to (suc i) bits
+shown_more : (bits : List ℕ) (i : ℕ) → i < length bits → set (shown_to i bits) i (get_or (bits_text bits) i 48) ≡ shown_to (suc i) bits
 unfolding bits_text
 shown_more [] i h = absurd (omega (arith, h))
 shown_more (b ∷ bits) zero h = refl
@@ -170,7 +175,8 @@ pub bits_more : (bits now : List ℕ) (i : ℕ) → Bits bits → i < length bit
     → set now i ((get_or now i 0 + 48) % 256) ≡ shown_to (i + 1) bits
 bits_more bits now i b h e =
     let v : get_or now i 0 ≡ get_or bits i 0 = ap (λ (t : List ℕ). get_or t i 0) e ∙ at_next bits i h in
-    let z : (get_or now i 0 + 48) % 256 ≡ 48 + get_or bits i 0 = omega (arith, v, below_at 1 bits i b) in
+    let small : (get_or now i 0 + 48) % 256 ≡ 48 + get_or bits i 0 = omega (arith, v, below_at 1 bits i b) in
+    let z = small ∙ bits_at bits i in
     ap₂ (λ (t : List ℕ) (c : ℕ). set t i c) e z ∙ shown_more bits i h ∙ ap (λ (k : ℕ). shown_to k bits) (sym (add-one i))
 
 -- .. all

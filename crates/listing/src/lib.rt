@@ -20,6 +20,7 @@ pub use take::{Row, Shown, Take, name_of};
 pub use text::Text;
 
 // Writes the program's whole output for its input, and answers its length. The buffer has room for every output.
+// (A lent array and no `String`: nothing is allocated.)
 pub fn list(input: &[u8], text: &mut [u8; 900000]) -> usize
     ensures value { result ≡ length (takelist input.now) }
     ensures text { text.new ≡ over (takelist input.now) text.old }

@@ -11,7 +11,7 @@ use crate::{Row, Shown, Take, Text, name_of};
 use receiver::{Mark, Totals};
 use refusal::Refusal;
 
-// Bits as characters, in their place.
+// Bits as characters, in their place. (`wrapping_add`, so that nothing is required of them.)
 fn bits(bits: &mut [u8])
     ensures { Bits bits.old → bits.new ≡ bits_text bits.old }
 {

@@ -3,7 +3,7 @@ ghost use Rattle.std.specs.Prelude.{◌≡◌, ◌≤◌, [], ◌∷◌, ◌++�
 ghost use Rattle.listing.specs.Put.{Put};
 ghost use Rattle.listing.specs.Text.{decimal, signed as Text·signed};
 
-// The buffer, and where the text on it ends.
+// The buffer, and where the text on it ends. (No type of the library: `write!` says nothing of when it is `Ok`, and nothing here can fail.)
 #[derive(Drop)]
 pub struct Text<'a> {
     bytes: &'a mut [u8],

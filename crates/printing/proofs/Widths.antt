@@ -15,8 +15,8 @@ use Rattle.printing.specs.Layout.{Narrow}
 -- a number of up to four digits has room for its sign
 signed_long : (z : ℤ) → mag z < 9999 → length (signed z) ≤ 5
 unfolding signed
-signed_long (pos n) h = let l : n < 9999 = h in omega (arith, decimal_long 3 n (omega arith) (omega arith))
-signed_long (negsuc n) h = let l : n < 9999 = h in omega (arith, decimal_long 3 (suc n) (omega arith) (omega arith))
+signed_long (pos n) h = let l : n < 9999 = h in omega (arith, decimal_long 3 n (omega arith))
+signed_long (negsuc n) h = let l : n < 9999 = h in omega (arith, decimal_long 3 (suc n) (omega arith))
 
 -- a mark's name has 4 characters
 mark_long : (m : Mark) → length (mark_name m) ≡ 4
@@ -30,9 +30,9 @@ pub answer_narrow : (i p : ℕ) → i < 65536 → p ≤ 6 → (a : Answer) → B
 answer_narrow i p few depth a s =
     let most : 2 ^ p ≤ 2 ^ 6 = pow_mono depth in
     record {
-      index = decimal_long 4 i (omega arith) (omega arith);
+      index = decimal_long 4 i (omega arith);
       mark = mark_long a.mark;
-      distance = decimal_long 3 a.distance (omega (arith, s.distance, s.flips)) (omega (arith, s.distance, s.flips));
+      distance = decimal_long 3 a.distance (omega (arith, s.distance, s.flips));
       margin = signed_long a.margin (omega (arith, s.margin));
-      tries = decimal_long 1 a.tries (omega (arith, s.tries)) (omega (arith, s.tries));
+      tries = decimal_long 1 a.tries (omega (arith, s.tries));
     }

@@ -44,7 +44,7 @@ pub fn print_take(take: &[u8], strip: &mut [u8]) -> Result<Totals, Refusal>
 }
 
 // Writes the whole output of the program `strip` for its input, and answers its length: the strip of a take, or what `takelist` prints where
-// that is refused or too long. The buffer has room for every output.
+// that is refused or too long. The buffer has room for every output. (A lent array and no `String`: nothing is allocated.)
 pub fn print(input: &[u8], text: &mut [u8; 900000]) -> usize
     ensures value { result ≡ length (strip_output input.now) }
     ensures text { text.new ≡ over (strip_output input.now) text.old }

@@ -17,7 +17,7 @@ pub fn length_of(words: u16) -> usize
     ensures { result ≡ strip_length words }
 {
     let words = usize::from(words);
-    25 * (words + ((words + 39) / 40).max(1))
+    25 * (words + words.div_ceil(40).max(1))
 }
 
 // The heading where a page starts.

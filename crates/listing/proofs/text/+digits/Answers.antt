@@ -1,19 +1,23 @@
 -- The digits of a tenth, where there are any, and one behind them. Assumes nothing.
-use Rattle.std.proofs.Common.{ℕ, ◌+◌, ◌%◌, arith, ap, length, ◌≡◌, ◌≤◌, ◌<◌}
+use Rattle.std.proofs.Common.{ℕ, ◌+◌, ◌%◌, arith, ap, sym, ◌∙◌, [], ◌∷◌, length, ◌≡◌, ◌≤◌, ◌<◌}
 use native.Mathlib.Decide.{dec_lt}
 use mathlib.Core.Logic.{◌≢◌}
+use Rattle.listing.specs.Text.{decimal}
 use Rattle.listing.proofs.Texts.{put_then, put_said, put_at, put_none, put_one, put_full}
 use Rattle.listing.proofs.Decimals.{decimal_small, decimal_more}
 use Rattle.listing.proofs.text.+digits.Goals.{then-x-ge10, else-x-ge10}
 use Rattle.listing.proofs.text.+digits.Goals as goal
+
+one : (x : ℕ) → x < 10 → (48 + x % 10) ∷ [] ≡ decimal x
+one x h = let e : x % 10 ≡ x = omega (arith, h) in ap (λ (k : ℕ). (48 + k) ∷ []) e ∙ sym (decimal_small x h)
 
 pub returns-then-next-bytes : goal.returns-then-next-bytes
 returns-then-next-bytes t c =
     let x = c.args.x in
     let last = put_full c.if-x-ge10.bytes c.if-x-ge10.next (48 + x % 10) c.if-next-bytes.true in
     elim c.if-x-ge10.branch [
-      | then-x-ge10 w ↦ put_said (put_then (put_at w.bytes-is w.next-is w.digits-next.ensures) last) (decimal_more x w.if-x-ge10.true (omega arith))
-      | else-x-ge10 w ↦ put_said (put_then (put_at w.bytes-is w.next-is (put_none c.args.bytes.now c.args.at c.requires)) last) (decimal_small x w.if-x-ge10.false)
+      | then-x-ge10 w ↦ put_said (put_then (put_at w.bytes-is w.next-is w.digits-next.ensures) last) (sym (decimal_more x w.if-x-ge10.true))
+      | else-x-ge10 w ↦ put_said (put_then (put_at w.bytes-is w.next-is (put_none c.args.bytes.now c.args.at c.requires)) last) (one x w.if-x-ge10.false)
     ]
 
 lt_of : (m n : ℕ) → m ≤ n → m ≢ n → m < n
@@ -28,6 +32,6 @@ returns t c =
     let last = λ (l : c.if-x-ge10.next ≤ length c.if-x-ge10.bytes). put_one c.if-x-ge10.bytes c.if-x-ge10.next (48 + x % 10)
     (lt_of c.if-x-ge10.next (length c.if-x-ge10.bytes) l c.if-next-bytes.false) in
     elim c.if-x-ge10.branch [
-      | then-x-ge10 w ↦ put_said (put_then (put_at w.bytes-is w.next-is w.digits-next.ensures) (last (omega (arith, ap length w.bytes-is, w.next-is, w.digits-next.ensures.inside)))) (decimal_more x w.if-x-ge10.true (omega arith))
-      | else-x-ge10 w ↦ put_said (put_then (put_at w.bytes-is w.next-is (put_none c.args.bytes.now c.args.at c.requires)) (last (omega (arith, ap length w.bytes-is, w.next-is, c.requires)))) (decimal_small x w.if-x-ge10.false)
+      | then-x-ge10 w ↦ put_said (put_then (put_at w.bytes-is w.next-is w.digits-next.ensures) (last (omega (arith, ap length w.bytes-is, w.next-is, w.digits-next.ensures.inside)))) (sym (decimal_more x w.if-x-ge10.true))
+      | else-x-ge10 w ↦ put_said (put_then (put_at w.bytes-is w.next-is (put_none c.args.bytes.now c.args.at c.requires)) (last (omega (arith, ap length w.bytes-is, w.next-is, c.requires)))) (one x w.if-x-ge10.false)
     ]

@@ -5,4 +5,4 @@ use Rattle.printing.proofs.pages.length_of.Goals as goal
 
 pub returns : goal.returns
 unfolding strip_length
-returns c = omega (arith, c.from-words.ensures, c.max.ensures)
+returns c = omega (arith, c.from-words.ensures, c.div_ceil.ensures, c.max.ensures)
