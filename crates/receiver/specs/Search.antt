@@ -118,9 +118,13 @@ module _ (t : Tables) (w : Ranked) where
   abbrev pub TriedOf : Outcome → Type 0
   TriedOf o = Tried (code_of (code_in t)) w.p w.symbols.now o
 
+  -- the soft stage's answer
+  abbrev pub stage_of : Answer
+  stage_of = soft_stage (code_of (code_in t)) w.p w.symbols.now
+
   -- and the search's outcome
   abbrev pub SearchedOf : Outcome → Type 0
-  SearchedOf o = (outcome_of w.p w.symbols.now o ≡ soft_stage (code_of (code_in t)) w.p w.symbols.now) × IsSound (code_in t).n o.best
+  SearchedOf o = (outcome_of w.p w.symbols.now o ≡ stage_of) × IsSound (code_in t).n o.best
 
 -- what is written for an answer, of its codeword from a position on, over what was there
 unfoldable pub written_from : ℕ → Answer → List ℕ → List ℕ

@@ -1,28 +1,28 @@
 // Several words of one code, decoded with tables that are filled once. A word's mark and tries are read off the outcome of its search, and no
 // codeword stands between that and its message.
 ghost use Rattle.std.specs.Prelude.{◌+◌, ◌-◌, ◌<◌, ◌≤◌, ◌≡◌, length};
-ghost use Rattle.chase.specs.Soft.{soft_stage};
-ghost use Rattle.chase.specs.Word.{Symbols};
 ghost use Rattle.take_format.specs.Batch.{message as Batch·message, mark_byte, answers_to, messages_of, marks_of, totals_of};
 ghost use Rattle.take_format.proofs.checks.RefusalLaws.{WordsChecked};
 ghost use Rattle.refusal.specs.Named.{code_of, Made};
 ghost use Rattle.receiver.specs.Answer.{totals_told, byte_of};
-ghost use Rattle.receiver.specs.Search.{mark_in};
+ghost use Rattle.receiver.specs.Search.{mark_in, stage_of};
 ghost use Rattle.receiver.specs.Held.{code_in};
 
-use crate::search::Outcome;
+use crate::least_keys::Ranked;
+use crate::search::{Outcome, Search};
 use crate::tables::{Field, Tables};
 use crate::{Mark, Totals, soft_stage, tables};
 use refusal::Code;
 
 // One word: its message, and 0 in its place where it is lost.
-fn decode_word(tables: &Tables, p: usize, s: &[u8], message: &mut [u8]) -> Outcome
-    requires { (p ≤ 6) × (length s.now ≡ (code_in tables.now).n) × Symbols s.now × (length message.old ≡ (code_in tables.now).k) }
-    ensures answer { (byte_of (mark_in result.best) ≡ mark_byte (soft_stage (code_of (code_in tables.now)) p s.now).mark) × (result.tries ≡ (soft_stage (code_of (code_in tables.now)) p s.now).tries) }
-    ensures message { message.new ≡ Batch·message (code_of (code_in tables.now)) (soft_stage (code_of (code_in tables.now)) p s.now) }
+fn decode_word(search: &Search, message: &mut [u8]) -> Outcome
+    requires { length message.old ≡ (code_in search.now.tables.now).k }
+    ensures answer { (byte_of (mark_in result.best) ≡ mark_byte (stage_of search.now.tables.now search.now.word.now).mark) × (result.tries ≡ (stage_of search.now.tables.now search.now.word.now).tries) }
+    ensures message { message.new ≡ Batch·message (code_of (code_in search.now.tables.now)) (stage_of search.now.tables.now search.now.word.now) }
 {
-    let from = tables.field.code.length() - tables.field.code.message_length();
-    let o = soft_stage::decode_word(tables, p, s, from, message);
+    let code = search.tables.field.code;
+    let from = code.length() - code.message_length();
+    let o = soft_stage::decode_word(search, from, message);
     if o.mark() == Mark::Lost {
         message.fill(0);
     }
@@ -30,7 +30,7 @@ fn decode_word(tables: &Tables, p: usize, s: &[u8], message: &mut [u8]) -> Outco
 }
 
 // All words, one after the other: as many as there are marks. (Each word's part is cut by its place: a proof knows no byte that is written
-// through `chunks_exact_mut`.)
+// through `chunks_exact_mut`. The tables are lent again to each search, which doesn't outlive its word.)
 fn decode_all(
     tables: &Tables,
     p: usize,
@@ -44,16 +44,17 @@ fn decode_all(
     ensures messages { messages.new ≡ messages_of (code_of (code_in tables.now)) (answers_to (code_of (code_in tables.now)) p (length marks.old) symbols.now) }
     ensures marks { marks.new ≡ marks_of (answers_to (code_of (code_in tables.now)) p (length marks.old) symbols.now) }
 {
-    let n = tables.field.code.length();
-    let k = tables.field.code.message_length();
+    let code = tables.field.code;
+    let n = code.length();
+    let k = code.message_length();
     let mut totals = Totals::NONE;
     for (w, byte) in marks.iter_mut().enumerate() {
-        let o = decode_word(
-            tables,
-            p,
-            &symbols[w * n..w * n + n],
-            &mut messages[w * k..w * k + k],
-        );
+        let word = Ranked::new(&symbols[w * n..w * n + n], code.distance(), p);
+        let search = Search {
+            tables: &*tables,
+            word: &word,
+        };
+        let o = decode_word(&search, &mut messages[w * k..w * k + k]);
         let mark = o.mark();
         *byte = mark as u8;
         totals = totals.add(mark, o.tries);

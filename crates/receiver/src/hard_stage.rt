@@ -110,9 +110,9 @@ pub fn decode(c: Code, bits: &[u8], codeword: &mut [u8]) -> Option<Flips>
     ensures answer { hard_of (Ok result) ≡ hard_record (inr (hard_stage (code_of c) bits.now)) }
     ensures codeword { codeword.new ≡ hard_written (code_of c) bits.now codeword.old }
 {
-    match c.m {
-        0..=6 => decode_in(c, &mut [0; 208], bits, codeword),
-        7 | 8 => decode_in(c, &mut [0; 784], bits, codeword),
-        _ => decode_in(c, &mut [0; 3088], bits, codeword),
-    }
+    tables::in_room(
+        c.m,
+        codeword,
+        |numbers, codeword| decode_in(c, numbers, bits, codeword),
+    )
 }

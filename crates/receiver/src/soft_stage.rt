@@ -4,6 +4,7 @@ ghost use Rattle.std.specs.Prelude.{Ok, ◌≡◌, ◌-◌, ◌*◌, ◌+◌, �
 ghost use Rattle.std.proofs.Common.{inr};
 ghost use Rattle.std.proofs.Math.IntN.{sub_ℕ};
 ghost use Rattle.galois.proofs.FieldTables.{Zeros};
+ghost use Rattle.bch.specs.Code.{design_distance};
 ghost use Rattle.bch.specs.Words.{Bits, Below, Distinct, flipped_at};
 ghost use Rattle.bch.proofs.codes.Behind.{flipped_from};
 ghost use Rattle.chase.specs.Soft.{hard_bits, soft_stage, soft_written};
@@ -13,7 +14,7 @@ ghost use Rattle.chase.proofs.search.Ready.{places_of};
 ghost use Rattle.refusal.specs.Named.{code_of, Made};
 ghost use Rattle.receiver.specs.Answer.{soft_of};
 ghost use Rattle.receiver.specs.Located.{flips_of};
-ghost use Rattle.receiver.specs.Search.{outcome_of, written_from, IsSound, found_by, told};
+ghost use Rattle.receiver.specs.Search.{written_from, IsSound, SearchedOf, stage_of, found_by, told};
 ghost use Rattle.receiver.specs.Held.{code_in};
 
 use crate::least_keys::{self, Ranked};
@@ -91,37 +92,37 @@ fn tell(n: usize, o: Outcome) -> Soft
     }
 }
 
-// The soft stage with tables that are filled: the outcome is known before the buffer is written, with the codeword from `from` on.
-pub fn decode_word(tables: &Tables, p: usize, s: &[u8], from: usize, out: &mut [u8]) -> Outcome
-    requires { (p ≤ 6) × (length s.now ≡ (code_in tables.now).n) × Symbols s.now × (from + length out.old ≡ (code_in tables.now).n) }
-    ensures answer { (outcome_of p s.now result ≡ soft_stage (code_of (code_in tables.now)) p s.now) × IsSound (code_in tables.now).n result.best }
-    ensures out { out.new ≡ written_from from (soft_stage (code_of (code_in tables.now)) p s.now) out.old }
+// The soft stage of a word that is ranked, with tables that are filled: the outcome is known before the buffer is written, with the codeword
+// from `from` on.
+pub fn decode_word(search: &Search, from: usize, out: &mut [u8]) -> Outcome
+    requires { from + length out.old ≡ (code_in search.now.tables.now).n }
+    ensures answer { SearchedOf search.now.tables.now search.now.word.now result }
+    ensures out { out.new ≡ written_from from (stage_of search.now.tables.now search.now.word.now) out.old }
 {
-    let word = Ranked::new(s, tables.field.code.distance(), p);
-    let search = Search {
-        tables,
-        word: &word,
-    };
     let o = search.run();
     if let Some(pick) = o.pick() {
-        write_word(&word, &pick, from, out);
+        write_word(search.word, &pick, from, out);
     }
     o
 }
 
-// The soft stage, with room for its tables.
-fn decode_in(c: Code, numbers: &mut [u32], p: usize, s: &[u8], codeword: &mut [u8]) -> Soft
+// The soft stage of a word that is ranked, with room for its tables.
+fn decode_in(c: Code, numbers: &mut [u32], word: &Ranked, codeword: &mut [u8]) -> Soft
     requires made { Made c × (3 * 2 ^ c.m + 16 ≤ length numbers.old) × Zeros numbers.old }
-    requires p_bound { (p ≤ 6) × (length s.now ≡ c.n) × (length codeword.old ≡ c.n) × Symbols s.now }
-    ensures answer { soft_of (Ok result) codeword.new ≡ inr (soft_stage (code_of c) p s.now) }
-    ensures codeword { codeword.new ≡ soft_written (soft_stage (code_of c) p s.now) codeword.old }
+    requires word { (length word.now.symbols.now ≡ c.n) × (word.now.d ≡ design_distance (code_of c)) × (length codeword.old ≡ c.n) }
+    ensures answer { soft_of (Ok result) codeword.new ≡ inr (soft_stage (code_of c) word.now.p word.now.symbols.now) }
+    ensures codeword { codeword.new ≡ soft_written (soft_stage (code_of c) word.now.p word.now.symbols.now) codeword.old }
 {
     tables::fill_field(c, numbers);
     tables::fill_roots(c, numbers);
     let tables = Tables {
         field: Field { code: c, numbers },
     };
-    tell(c.n, decode_word(&tables, p, s, 0, codeword))
+    let search = Search {
+        tables: &tables,
+        word,
+    };
+    tell(c.n, decode_word(&search, 0, codeword))
 }
 
 // The soft stage, with tables of its own, as large as m asks for.
@@ -130,9 +131,9 @@ pub fn decode(c: Code, p: usize, s: &[u8], codeword: &mut [u8]) -> Soft
     ensures answer { soft_of (Ok result) codeword.new ≡ inr (soft_stage (code_of c) p s.now) }
     ensures codeword { codeword.new ≡ soft_written (soft_stage (code_of c) p s.now) codeword.old }
 {
-    match c.m {
-        0..=6 => decode_in(c, &mut [0; 208], p, s, codeword),
-        7 | 8 => decode_in(c, &mut [0; 784], p, s, codeword),
-        _ => decode_in(c, &mut [0; 3088], p, s, codeword),
-    }
+    tables::in_room(
+        c.m,
+        codeword,
+        |numbers, codeword| decode_in(c, numbers, &Ranked::new(s, c.distance(), p), codeword),
+    )
 }

@@ -202,3 +202,15 @@ pub fn fill_roots(c: Code, numbers: &mut [u32])
     fill_kappas(c, numbers);
     wrap(c.roots, c.period, numbers);
 }
+
+// What f gives where it is lent room for the tables of a code of that m and the codeword: as many zeros as m asks for.
+pub fn in_room<R, F: FnOnce(&mut [u32], &mut [u8]) -> R>(m: usize, codeword: &mut [u8], f: F) -> R
+    requires { (m ≤ 10) × ((numbers : _) (to : _) → (3 * 2 ^ m + 16 ≤ length numbers.now) × Zeros numbers.now → (to.now ≡ codeword.old) → F.pre f numbers to) }
+    ensures { (numbers : _) × (to : _) × (left : _) × (written : _) × (3 * 2 ^ m + 16 ≤ length numbers.now) × Zeros numbers.now × (to.now ≡ codeword.old) × (written.now ≡ codeword.new) × F.post f numbers to result left written }
+{
+    match m {
+        0..=6 => f(&mut [0; 208], codeword),
+        7 | 8 => f(&mut [0; 784], codeword),
+        _ => f(&mut [0; 3088], codeword),
+    }
+}

@@ -17,6 +17,7 @@ use Rattle.take_format.proofs.takes.PromiseLaws.{message_long, tries_most}
 use Rattle.refusal.specs.Named.{code_of}
 use Rattle.receiver.specs.Answer.{totals_told, byte_of}
 use Rattle.receiver.specs.Held.{code_in}
+use Rattle.receiver.specs.Search.{stage_of}
 use Rattle.receiver.proofs.Marks.{number_told}
 use Rattle.receiver.proofs.all_words.decode_all.Goals as goal
 
@@ -65,16 +66,22 @@ loop-w-init c =
       record { words = omega arith; sures = omega arith; fairs = omega arith; losts = omega arith; tries = omega arith },
     )
 
+pub new-word-requires : goal.new-word-requires
+new-word-requires c =
+    let ok = c.requires.words_checked in
+    let made = c.args.tables.now.filled.fielded.made in
+    let part = word ok c.loop-w-test.true c.length-n.result c.length-n.ensures in
+    (part.1, omega (arith, part.0, made.lawful), omega (arith, made), omega (arith, part.0, made), ok.depth, omega (arith, part.0, made.long, ok.depth))
+
 pub decode_word-o-requires : goal.decode_word-o-requires
 decode_word-o-requires c =
     let l = c.loop-w in
     let ok = c.requires.words_checked in
     let code = code_in c.args.tables.now in
     let k : code.k ≡ message_length (code_of code) = omega (arith, c.args.tables.now.filled.fielded.made.is_n) in
-    let part = word ok c.loop-w-test.true c.length-n.result c.length-n.ensures in
     let there =
     inside l.w _ _ c.message_length-k.result l.messages c.loop-w-test.true (c.message_length-k.ensures ∙ k) (omega (arith, ok.messages_room)) in
-    (ok.depth, part.0, part.1, there ∙ sym k)
+    there ∙ sym k
 
 pub loop-w-preserved : goal.loop-w-preserved
 loop-w-preserved c =
@@ -94,19 +101,22 @@ loop-w-preserved c =
     let e = same-part l.w code.n n.result xs n.ensures in
     let ss = take (l.w * n.result + n.result - l.w * n.result) (drop (l.w * n.result) xs) in
     let part = word ok h n.result n.ensures in
+    let is : stage_of a.tables.now c.new-word.result ≡ soft_stage code a.p ss = ap₂ (soft_stage code) c.new-word.ensures.p c.new-word.ensures.symbols in
+    let answered = rw is at w.ensures.answer in
+    let filled = rw is at w.ensures.message in
     let tried = tries_most code made.lawful fits a.p ss part.0 part.1 in
     let counted = counted_of (totals_told l.totals) (byte_of m.result) w.result.tries in
     let few =
     few_more l.w (totals_told l.totals) l.invariant.1 (byte_of m.result) w.result.tries
-    (at_most _ _ _ w.ensures.answer.1 tried (pow_mono ok.depth)) in
+    (at_most _ _ _ answered.1 tried (pow_mono ok.depth)) in
     let told : totals_told c.add-totals.result ≡ counted =
     c.add-totals.ensures ∙ few_capped (l.w + 1) counted few (words-few _ _ h c.requires.few) in
-    let written = ap length w.ensures.message ∙ message_long code made.lawful fits a.p ss part.0 part.1 in
+    let written = ap length filled ∙ message_long code made.lawful fits a.p ss part.0 part.1 in
     let to : l.w * k.result ≡ l.w * long = ap (λ (x : ℕ). l.w * x) (omega (arith, k.ensures, made.is_n)) in
     let done =
     done_more code a.p xs l.w l.messages l.marks (totals_told l.totals) l.invariant.0 (l.w * k.result) (byte_of m.result) w.result.tries _ _ to
     (begins l.w _ long h to (omega (arith, ok.messages_room))) (omega arith)
-    (w.ensures.message ∙ ap (λ (ss : List ℕ). message code (soft_stage code a.p ss)) e) written
-    (ap byte_of m.ensures ∙ w.ensures.answer.0 ∙ ap (λ (ss : List ℕ). mark_byte (soft_stage code a.p ss).mark) e)
-    (w.ensures.answer.1 ∙ ap (λ (ss : List ℕ). (soft_stage code a.p ss).tries) e) in
+    (filled ∙ ap (λ (ss : List ℕ). message code (soft_stage code a.p ss)) e) written
+    (ap byte_of m.ensures ∙ answered.0 ∙ ap (λ (ss : List ℕ). mark_byte (soft_stage code a.p ss).mark) e)
+    (answered.1 ∙ ap (λ (ss : List ℕ). (soft_stage code a.p ss).tries) e) in
     rw (number_told m.result) (rw told done, subst (Few (l.w + 1)) (sym told) few)
