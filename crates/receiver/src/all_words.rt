@@ -71,13 +71,11 @@ pub fn decode(c: Code, p: usize, symbols: &[u8], messages: &mut [u8], marks: &mu
     ensures marks { marks.new ≡ marks_of (answers_to (code_of c) p (length marks.old) symbols.now) }
 {
     let mut numbers = [0; 3088];
-    tables::fill_field(c, &mut numbers);
-    tables::fill_roots(c, &mut numbers);
-    let tables = Tables {
-        field: Field {
-            code: c,
-            numbers: &numbers,
-        },
-    };
-    decode_all(&tables, p, symbols, messages, marks)
+    decode_all(
+        &Tables::filled(c, &mut numbers),
+        p,
+        symbols,
+        messages,
+        marks,
+    )
 }

@@ -34,7 +34,8 @@ fn write_bits(s: &[u8], from: usize, out: &mut [u8])
     }
 }
 
-// Flips the weak positions that test word j flips, in the bits of a word from `from` on.
+// Flips the weak positions that test word j flips, in the bits of a word from `from` on. (The bits of j one after the other, as in `weighing`:
+// an iterator of them would be a type of its own.)
 fn flip_weak(out: &mut [u8], from: usize, word: &Ranked, j: usize)
     requires { Bits out.old × Distinct (from + length out.old) (places_of word.now.keys.at word.now.p) }
     ensures { out.new ≡ flipped_from from (chosen j (places_of word.now.keys.at word.now.p)) out.old }
@@ -58,7 +59,7 @@ fn write_word(word: &Ranked, pick: &Pick, from: usize, out: &mut [u8])
     hard_stage::flip_at(out, from, &pick.flips);
 }
 
-// A - L.
+// A - L. (`as`: no `From` goes to a signed number of as many bits.)
 fn margin(a: u32, l: u32) -> i32
     requires { (a < 65536) × (l < 65536) }
     ensures { result ≡ sub_ℕ a l }
@@ -66,7 +67,7 @@ fn margin(a: u32, l: u32) -> i32
     a as i32 - l as i32
 }
 
-// What is found, as the caller's answer has it.
+// What is found, as the caller's answer has it. (No `From`: the numbers have to be small.)
 fn found(pick: &Pick, tries: usize) -> Found
     requires { (pick.now.weight.sum < 65536) × (pick.now.allowed < 65536) }
     ensures { result ≡ found_by tries pick.now }
@@ -113,11 +114,7 @@ fn decode_in(c: Code, numbers: &mut [u32], word: &Ranked, codeword: &mut [u8]) -
     ensures answer { soft_of (Ok result) codeword.new ≡ inr (soft_stage (code_of c) word.now.p word.now.symbols.now) }
     ensures codeword { codeword.new ≡ soft_written (soft_stage (code_of c) word.now.p word.now.symbols.now) codeword.old }
 {
-    tables::fill_field(c, numbers);
-    tables::fill_roots(c, numbers);
-    let tables = Tables {
-        field: Field { code: c, numbers },
-    };
+    let tables = Tables::filled(c, numbers);
     let search = Search {
         tables: &tables,
         word,

@@ -2,13 +2,13 @@
 //
 // By element x, 2^m entries: the logarithm of x. (That of 0 is an exponent of its own, whose powers are 0, so that S1 = 0 needs no branch.)
 // By exponent i, from `powers` on, 2^m + 8 entries: α^i, α^3i and α^5i in one number, as many of them as t says.
-// By exponent e, from `roots` on, 2^m + 8 entries: the logarithms of two roots in one number, 0 where there are none. For t = 2 they are
-// those of w and w + 1, where w^2 + w = α^e; for t = 3 those of the last two w where w^3 = α^e (w + 1).
+// By exponent e, from `roots` on, 2^m + 8 entries: the logarithms of two roots in one number, 0 where there are none (and
+// no Option, so that an entry has 32 bits). For t = 2 they are those of w and w + 1, where w^2 + w = α^e; for t = 3 those of the last two w where w^3 = α^e (w + 1).
 //
 // A sum of exponents is folded once, and is then at most seven beyond the period: so the first eight entries stand again behind it.
 //
-// The slice is a local array of the stage that fills it: of 208, 784 or 3,088 numbers by m, since an array's length is part of its type;
-// several words always have the largest, which is cleared once. What it holds is one predicate, `CodeTables` (bch), for m up to 10. Two types
+// The slice is a local array that `in_room` lends the stage that fills it: of 208, 784 or 3,088 numbers by m, since an array's length is part of
+// its type; several words always have the largest, which is cleared once. What it holds is one predicate, `CodeTables` (bch), for m up to 10. Two types
 // say how far it is filled: `Field`, with the tables of the field, and `Tables`, with the roots too. (While it is filled, it is lent for
 // writing and each step leaves it otherwise, so that no type says what it holds: there the code stands beside it.)
 ghost use Rattle.std.specs.Prelude.{◌≡◌, ◌≢◌, ◌+◌, ◌-◌, ◌*◌, ◌%◌, ◌<◌, ◌≤◌, ◌^◌, min, length};
@@ -65,6 +65,18 @@ pub struct Tables<'a> {
 }
 
 impl<'a> Tables<'a> {
+    // A code with all its tables, in numbers that are zeros before.
+    pub fn filled(code: Code, numbers: &'a mut [u32]) -> Tables<'a>
+        requires { Made code × (3 * 2 ^ code.m + 16 ≤ length numbers.old) × Zeros numbers.old }
+        ensures { result.field.code ≡ code }
+    {
+        fill_field(code, numbers);
+        fill_roots(code, numbers);
+        Tables {
+            field: Field { code, numbers },
+        }
+    }
+
     // The logarithms of two roots, of an exponent that is folded.
     pub fn roots_of(&self, e: usize) -> u32
         requires { e < 2 ^ self.now.field.code.m + 7 }
@@ -203,7 +215,8 @@ pub fn fill_roots(c: Code, numbers: &mut [u32])
     wrap(c.roots, c.period, numbers);
 }
 
-// What f gives where it is lent room for the tables of a code of that m and the codeword: as many zeros as m asks for.
+// What f gives where it is lent room for the tables, as many zeros as m asks for, and the codeword. (The codeword goes through here, since a
+// caller knows nothing of what its closure borrowed for writing.)
 pub fn in_room<R, F: FnOnce(&mut [u32], &mut [u8]) -> R>(m: usize, codeword: &mut [u8], f: F) -> R
     requires { (m ≤ 10) × ((numbers : _) (to : _) → (3 * 2 ^ m + 16 ≤ length numbers.now) × Zeros numbers.now → (to.now ≡ codeword.old) → F.pre f numbers to) }
     ensures { (numbers : _) × (to : _) × (left : _) × (written : _) × (3 * 2 ^ m + 16 ≤ length numbers.now) × Zeros numbers.now × (to.now ≡ codeword.old) × (written.now ≡ codeword.new) × F.post f numbers to result left written }

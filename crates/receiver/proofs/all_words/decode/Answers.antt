@@ -3,5 +3,5 @@ use native.Mathlib.Omega.{arith}
 use Rattle.galois.proofs.FieldTables.{zeros}
 use Rattle.receiver.proofs.all_words.decode.Goals as goal
 
-pub fill_field-requires : goal.fill_field-requires
-fill_field-requires c = let made = c.requires.made.0 in (made, omega (arith, made.size_most), zeros 3088)
+pub filled-requires : goal.filled-requires
+filled-requires c = let made = c.requires.made.0 in (made, omega (arith, made.size_most), zeros 3088)
