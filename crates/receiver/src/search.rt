@@ -1,7 +1,8 @@
 // The Chase search: the hard stage of one test word after the other, each candidate weighed, until one is sure.
 //
 // The test words stand in an array of 64, which is doubled only as far as the search gets: test word 0 needs none, the next seven are made at
-// once, and then each weak position doubles them. (An array, and no `Vec`: nothing is allocated.) The search keeps numbers alone (`Outcome`); the codeword is written after it.
+// once, and then each weak position doubles them. (An array, and no `Vec`: nothing is allocated.) The search keeps numbers alone (`Outcome`);
+// the codeword is written after it.
 ghost use Rattle.std.specs.Prelude.{◌≡◌, false, ◌++◌, ◌-◌, ◌^◌, ◌<◌, ◌≤◌, length, take};
 ghost use Rattle.bch.specs.Code.{design_distance};
 ghost use Rattle.bch.proofs.logarithms.LogAnswers.{syndromes_of};

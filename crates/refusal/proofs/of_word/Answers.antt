@@ -15,8 +15,9 @@ pub returns-in_err-bits : goal.returns-in_err-bits
 returns-in_err-bits c =
     let a = c.args in
     let x = c.in_ok-c.c in
+    let check = c.in_err-bits.ensures ∙ ap₂ (λ (k n : ℕ). bits_check k n a.word.now a.room) c.length.ensures c.length-2.ensures in
     named_later _ x (code a.m a.t a.n) (λ x. bits_check x.n x.n a.word.now a.room) c.in_ok-c.ensures
-    (later_err _ c.in_err-bits.field-0.0 x _ c.from_residual-in_err-bits.ensures.1 (c.in_err-bits.ensures ∙ ap₂ (λ (k n : ℕ). bits_check k n a.word.now a.room) c.length.ensures c.length-2.ensures))
+    (later_err _ c.in_err-bits.field-0.0 x _ c.from_residual-in_err-bits.ensures.1 check)
 
 pub returns : goal.returns
 returns c =

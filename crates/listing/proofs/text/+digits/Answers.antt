@@ -32,6 +32,10 @@ returns t c =
     let last = λ (l : c.if-x-ge10.next ≤ length c.if-x-ge10.bytes). put_one c.if-x-ge10.bytes c.if-x-ge10.next (48 + x % 10)
     (lt_of c.if-x-ge10.next (length c.if-x-ge10.bytes) l c.if-next-bytes.false) in
     elim c.if-x-ge10.branch [
-      | then-x-ge10 w ↦ put_said (put_then (put_at w.bytes-is w.next-is w.digits-next.ensures) (last (omega (arith, ap length w.bytes-is, w.next-is, w.digits-next.ensures.inside)))) (sym (decimal_more x w.if-x-ge10.true))
-      | else-x-ge10 w ↦ put_said (put_then (put_at w.bytes-is w.next-is (put_none c.args.bytes.now c.args.at c.requires)) (last (omega (arith, ap length w.bytes-is, w.next-is, c.requires)))) (one x w.if-x-ge10.false)
+      | then-x-ge10 w ↦
+          let room = last (omega (arith, ap length w.bytes-is, w.next-is, w.digits-next.ensures.inside)) in
+          put_said (put_then (put_at w.bytes-is w.next-is w.digits-next.ensures) room) (sym (decimal_more x w.if-x-ge10.true))
+      | else-x-ge10 w ↦
+          let room = last (omega (arith, ap length w.bytes-is, w.next-is, c.requires)) in
+          put_said (put_then (put_at w.bytes-is w.next-is (put_none c.args.bytes.now c.args.at c.requires)) room) (one x w.if-x-ge10.false)
     ]
