@@ -104,15 +104,15 @@ fn decode_in(c: Code, numbers: &mut [u32], bits: &[u8], codeword: &mut [u8]) -> 
     write(c, located(c, numbers, s), bits, codeword)
 }
 
-// The hard stage, with tables of its own, as large as m asks for.
+// The hard stage, with tables of its own, as large as m asks for. (Chosen here and in the soft stage: one function for both is slower there.)
 pub fn decode(c: Code, bits: &[u8], codeword: &mut [u8]) -> Option<Flips>
     requires { Made c × (length bits.now ≡ c.n) × (length codeword.old ≡ c.n) × Bits bits.now }
     ensures answer { hard_of (Ok result) ≡ hard_record (inr (hard_stage (code_of c) bits.now)) }
     ensures codeword { codeword.new ≡ hard_written (code_of c) bits.now codeword.old }
 {
-    tables::in_room(
-        c.m,
-        codeword,
-        |numbers, codeword| decode_in(c, numbers, bits, codeword),
-    )
+    match c.m {
+        0..=6 => decode_in(c, &mut [0; 208], bits, codeword),
+        7 | 8 => decode_in(c, &mut [0; 784], bits, codeword),
+        _ => decode_in(c, &mut [0; 3088], bits, codeword),
+    }
 }

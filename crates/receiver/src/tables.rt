@@ -8,8 +8,8 @@
 //
 // A sum of exponents is folded once, and is then at most seven beyond the period: so the first eight entries stand again behind it.
 //
-// The slice is a local array that `in_room` lends the stage that fills it: of 208, 784 or 3,088 numbers by m, since an array's length is part of
-// its type; several words always have the largest, which is cleared once. What it holds is one predicate, `CodeTables` (bch), for m up to 10.
+// The slice is a local array of the stage that fills it: of 208, 784 or 3,088 numbers by m, since an array's length is part of its type;
+// several words always have the largest, which is cleared once. What it holds is one predicate, `CodeTables` (bch), for m up to 10.
 // Two types say how far it is filled: `Field`, with the tables of the field, and `Tables`, with the roots too. (While it is filled, it is lent
 // for writing and each step leaves it otherwise, so that no type says what it holds: there the code stands beside it.)
 ghost use Rattle.std.specs.Prelude.{◌≡◌, ◌≢◌, ◌+◌, ◌-◌, ◌*◌, ◌%◌, ◌<◌, ◌≤◌, ◌^◌, min, length};
@@ -214,17 +214,4 @@ pub fn fill_roots(c: Code, numbers: &mut [u32])
     fill_quadratics(c, numbers);
     fill_kappas(c, numbers);
     wrap(c.roots, c.period, numbers);
-}
-
-// What f gives where it is lent room for the tables, as many zeros as m asks for, and the codeword. (The codeword goes through here, since a
-// caller knows nothing of what its closure borrowed for writing.)
-pub fn in_room<R, F: FnOnce(&mut [u32], &mut [u8]) -> R>(m: usize, codeword: &mut [u8], f: F) -> R
-    requires { (m ≤ 10) × ((numbers : _) (to : _) → (3 * 2 ^ m + 16 ≤ length numbers.now) × Zeros numbers.now → (to.now ≡ codeword.old) → F.pre f numbers to) }
-    ensures { (numbers : _) × (to : _) × (left : _) × (written : _) × (3 * 2 ^ m + 16 ≤ length numbers.now) × Zeros numbers.now × (to.now ≡ codeword.old) × (written.now ≡ codeword.new) × F.post f numbers to result left written }
-{
-    match m {
-        0..=6 => f(&mut [0; 208], codeword),
-        7 | 8 => f(&mut [0; 784], codeword),
-        _ => f(&mut [0; 3088], codeword),
-    }
 }
