@@ -71,7 +71,8 @@ impl<'a> Text<'a> {
 }
 
 // The digits of a number at a place; answers where they end. (They are put by hand, and not through the text. `itoa` writes them into a buffer of
-// its own, from which they are then copied: a listing of 1,000 words took 2 percent longer so, and 4 percent with a text's `character` for each.)
+// its own, from which they are then copied. By the processor time of `list` on 1,000 words of 63 symbols, receiver included, that took 2 percent
+// longer, and a text's `character` for each digit 4 percent.)
 fn digits(bytes: &mut [u8], at: usize, x: usize) -> usize
     requires { at ≤ length bytes.old }
     ensures { Put bytes.old at (decimal x) bytes.new result }
