@@ -64,6 +64,16 @@ fn write_parity(register: u32, parity: &mut [u8])
     }
 }
 
+// Writes the message. (By place: `copy_from_slice` asks C for memmove, and the calls for C need memcpy and memset alone.)
+fn write_message(message: &[u8], out: &mut [u8])
+    requires { length out.old ≡ length message.now }
+    ensures { out.new ≡ message.now }
+{
+    for (i, bit) in out.iter_mut().enumerate() {
+        *bit = message[i];
+    }
+}
+
 // Writes the codeword that carries the message.
 pub fn write(c: Code, message: &[u8], codeword: &mut [u8])
     requires { BitsAccepted (code_of c) (message_length (code_of c)) message.now codeword.old }
@@ -73,5 +83,5 @@ pub fn write(c: Code, message: &[u8], codeword: &mut [u8])
     let register = parity(r, generator_of(c.m, c.t), message);
     let (low, high) = codeword.split_at_mut(r);
     write_parity(register, low);
-    high.copy_from_slice(message);
+    write_message(message, high);
 }

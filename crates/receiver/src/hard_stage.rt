@@ -78,6 +78,16 @@ pub fn flip_at(out: &mut [u8], from: usize, f: &Flips)
     }
 }
 
+// Copies bits. (By place: `copy_from_slice` asks C for memmove, and the calls for C need memcpy and memset alone.)
+fn copy(bits: &[u8], out: &mut [u8])
+    requires { length out.old ≡ length bits.now }
+    ensures { out.new ≡ bits.now }
+{
+    for (i, bit) in out.iter_mut().enumerate() {
+        *bit = bits[i];
+    }
+}
+
 // The bits flipped at the positions that the hard stage flips, where it does; and these in its answer.
 #[tactic(auto, using(crate::proofs::Repairing::answers))]
 fn write(c: Code, f: Option<Flips>, bits: &[u8], codeword: &mut [u8]) -> Option<Flips>
@@ -87,7 +97,7 @@ fn write(c: Code, f: Option<Flips>, bits: &[u8], codeword: &mut [u8]) -> Option<
     ensures codeword { codeword.new ≡ hard_written (code_of c) bits.now codeword.old }
 {
     let flips = f?;
-    codeword.copy_from_slice(bits);
+    copy(bits, codeword);
     flip_at(codeword, 0, &flips);
     Some(flips)
 }

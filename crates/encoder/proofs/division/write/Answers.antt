@@ -27,7 +27,7 @@ returns c =
     let r = a.c.m * a.c.t in
     let register = c.parity-register.result in
     let parity = c.write_parity.ensures ∙ ap (λ (k : ℕ). word k register) c.split_at_mut-low.ensures.front_len in
-    ap₂ (λ (xs ys : List ℕ). xs ++ ys) parity c.copy_from_slice.ensures.after
+    ap₂ (λ (xs ys : List ℕ). xs ++ ys) parity c.write_message.ensures
     ∙ ap (λ (xs : List ℕ). xs ++ a.message.now) (sym (take_at (word r register) [] r (length_word r register)))
     ∙ encoded_written (code_of a.c) (lawful _ c.requires.is_code) (omega arith) a.message.now [] _ _ c.requires.are_bits c.requires.long
     c.generator_of.ensures
