@@ -1,5 +1,5 @@
 // The positions that are flipped.
-ghost use Rattle.std.specs.Prelude.{◌≡◌, ◌≤◌, take};
+ghost use Rattle.std.specs.Prelude.{◌≡◌, ◌<◌, ◌≤◌, get_or, take};
 ghost use Rattle.bch.specs.Hard.{three_places};
 
 // Their number, and three places in which they rise and unused ones are 0. (A count and an array of three: document 01 names this form in
@@ -10,4 +10,19 @@ pub struct Flips {
     pub at: [usize; 3],
     ghost few: { count ≤ 3 },
     ghost zeros: { at ≡ three_places (take count at) },
+}
+
+impl Flips {
+    // The position at i. (By its place in the text, and not by an index: three places that no index reaches stay in registers, and in memory
+    // what copies them waits for them.)
+    pub(crate) fn entry(&self, i: usize) -> usize
+        requires { i < 3 }
+        ensures { result ≡ get_or self.now.at i 0 }
+    {
+        match i {
+            0 => self.at[0],
+            1 => self.at[1],
+            _ => self.at[2],
+        }
+    }
 }

@@ -73,8 +73,8 @@ pub fn flip_at(out: &mut [u8], from: usize, f: &Flips)
     requires { Bits out.old × Below (from + length out.old) (flips_of f.now) }
     ensures { out.new ≡ flipped_from from (flips_of f.now) out.old }
 {
-    for x in &f.at[..f.count] {
-        flip(out, from, *x);
+    for i in 0..f.count {
+        flip(out, from, f.entry(i));
     }
 }
 
@@ -120,9 +120,9 @@ pub fn decode(c: Code, bits: &[u8], codeword: &mut [u8]) -> Option<Flips>
     ensures answer { hard_of (Ok result) ≡ hard_record (inr (hard_stage (code_of c) bits.now)) }
     ensures codeword { codeword.new ≡ hard_written (code_of c) bits.now codeword.old }
 {
-    match c.m {
-        0..=6 => decode_in(c, &mut [0; 208], bits, codeword),
-        7 | 8 => decode_in(c, &mut [0; 784], bits, codeword),
+    match c.powers {
+        0..=64 => decode_in(c, &mut [0; 208], bits, codeword),
+        65..=256 => decode_in(c, &mut [0; 784], bits, codeword),
         _ => decode_in(c, &mut [0; 3088], bits, codeword),
     }
 }

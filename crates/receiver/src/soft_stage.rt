@@ -130,9 +130,9 @@ pub fn decode(c: Code, p: usize, s: &[u8], codeword: &mut [u8]) -> Soft
     ensures codeword { codeword.new ≡ soft_written (soft_stage (code_of c) p s.now) codeword.old }
 {
     let word = Ranked::new(s, c.distance(), p);
-    match c.m {
-        0..=6 => decode_in(c, &mut [0; 208], &word, codeword),
-        7 | 8 => decode_in(c, &mut [0; 784], &word, codeword),
+    match c.powers {
+        0..=64 => decode_in(c, &mut [0; 208], &word, codeword),
+        65..=256 => decode_in(c, &mut [0; 784], &word, codeword),
         _ => decode_in(c, &mut [0; 3088], &word, codeword),
     }
 }

@@ -66,9 +66,10 @@ impl<'a> Ranked<'a> {
     {
         let mut q = start / 65536;
         let mut sum = start % 65536;
-        for x in &f.at[..f.count] {
-            let z = self.z_at(*x);
-            if self.flipped(j, *x, z) {
+        for i in 0..f.count {
+            let x = f.entry(i);
+            let z = self.z_at(x);
+            if self.flipped(j, x, z) {
                 q -= 1;
                 sum -= z;
             } else {

@@ -1,19 +1,13 @@
 -- There is room for the tables. Assumes nothing.
-use Prim.Native.Nat.{◌^◌, ◌≤◌}
 use native.Mathlib.Omega.{arith}
-use lib.Pow.{pow_mono}
 use Rattle.galois.proofs.FieldTables.{zeros}
 use Rattle.receiver.proofs.hard_stage.decode.Goals as goal
 
 pub decode_in-requires-clause-made : goal.decode_in-requires-clause-made
-decode_in-requires-clause-made c =
-    let h : 2 ^ c.args.c.m ≤ 2 ^ 6 = pow_mono {j = 6} (omega arith) in
-    (c.requires.0, omega arith, zeros 208)
+decode_in-requires-clause-made c = (c.requires.0, omega (arith, c.requires.0.is_powers), zeros 208)
 
-pub decode_in-requires-in-7-clause-made : goal.decode_in-requires-in-7-clause-made
-decode_in-requires-in-7-clause-made c =
-    let h : 2 ^ c.args.c.m ≤ 2 ^ 8 = pow_mono {j = 8} (omega arith) in
-    (c.requires.0, omega arith, zeros 784)
+pub decode_in-requires-in-65-to-256-clause-made : goal.decode_in-requires-in-65-to-256-clause-made
+decode_in-requires-in-65-to-256-clause-made c = (c.requires.0, omega (arith, c.requires.0.is_powers), zeros 784)
 
 pub decode_in-requires-in_default-clause-made : goal.decode_in-requires-in_default-clause-made
 decode_in-requires-in_default-clause-made c = (c.requires.0, omega (arith, c.requires.0.size_most), zeros 3088)

@@ -3,7 +3,8 @@ use mathlib.Core.Path.{◌≡◌}
 use lib.ListN.{drop}
 use Rattle.bch.specs.Words.{Bits}
 use Rattle.bch.proofs.codes.Behind.{flipped_from}
+use Rattle.receiver.specs.Located.{flips_of}
 use Rattle.receiver.proofs.hard_stage.flip_at.Given as goal
 
-abbrev pub invariant-loop-x : goal.invariant-loop-x
-invariant-loop-x l = Bits l.out × (flipped_from l.from (drop l.x-index l.x-items) l.out ≡ flipped_from l.from l.x-items l.initial.out)
+abbrev pub invariant-loop-i : goal.invariant-loop-i
+invariant-loop-i l = Bits l.out × (flipped_from l.from (drop l.i (flips_of l.f)) l.out ≡ flipped_from l.from (flips_of l.f) l.initial.out)

@@ -29,64 +29,67 @@ record Step (ss P : List ℕ) (p j a q sum z : ℕ) (b : Bool) : Type 0 where
   back : b ≡ true → (1 ≤ q) × (z ≤ sum) × Turned ss (take (a + 1) P) p j (q - 1) (sum - z)
   out : b ≡ false → Turned ss (take (a + 1) P) p j (q + 1) (sum + z)
 
--- the next position of those located makes such a step
-step : (f : Flips) {ss ks : List ℕ} {p j a q sum z : ℕ} {b : Bool} → Ready ss ks p → f.count ≤ length f.at → Distinct (length ss) (flips_of f)
-    → a < length (flips_of f) → Turned ss (take a (flips_of f)) p j q sum → z ≡ get_or (reliabilities ss) (get_or (flips_of f) a 0) 0
-    → b ≡ is_in (get_or (flips_of f) a 0) (chosen j (weakest p ss)) → Step ss (flips_of f) p j a q sum z b
-step f {ss} {ks} {p} {j} {a} {q} {sum} ready there apart more old is-z is-b =
+-- the next position x of those located makes such a step
+step : (f : Flips) {ss ks : List ℕ} {p j a q sum x z : ℕ} {b : Bool} → Ready ss ks p → f.count ≤ length f.at → Distinct (length ss) (flips_of f)
+    → a < f.count → Turned ss (take a (flips_of f)) p j q sum → x ≡ get_or f.at a 0 → z ≡ get_or (reliabilities ss) x 0
+    → b ≡ is_in x (chosen j (weakest p ss)) → Step ss (flips_of f) p j a q sum z b
+step f {ss} {ks} {p} {j} {a} {q} {sum} ready there apart more old is-x is-z is-b =
     let small = weighs_small ss _ q sum ready.most (length_candidate ss ks p ready j (take a (flips_of f))) old in
-    let h : a < f.count = omega (arith, length-take-le f.count f.at there) in
-    let e = get_or-take f.count f.at a 0 h in
-    let held = rw e at is-z in
-    let chooses = rw e at is-b in
+    let held = rw is-x at is-z in
+    let chooses = rw is-x at is-b in
     record {
       q-most = small.0;
       sum-most = small.1;
-      back = λ k. back_at ss ks p ready j f.at f.count a q sum _ apart h there held old (sym k ∙ chooses);
-      out = λ k. out_at ss ks p ready j f.at f.count a q sum _ apart h there held old (sym k ∙ chooses);
+      back = λ k. back_at ss ks p ready j f.at f.count a q sum _ apart more there held old (sym k ∙ chooses);
+      out = λ k. out_at ss ks p ready j f.at f.count a q sum _ apart more there held old (sym k ∙ chooses);
     }
 
-pub loop-x-init : goal.loop-x-init
-loop-x-init c =
+pub loop-i-init : goal.loop-i-init
+loop-i-init c =
     let word = c.args.self.now in
     start_weighs word.symbols.now word.keys.at word.p word.deep.ready c.args.j c.args.start [] c.requires.start_value
 
 pub z_at-z-requires : goal.z_at-z-requires
-z_at-z-requires c = distinct_at _ _ _ c.requires.distinct c.loop-x-test.true
+z_at-z-requires c =
+    let f = c.args.f.now in
+    let i = c.loop-i.i in
+    let long : length (flips_of f) ≡ f.count = length-take-le f.count f.at (omega arith) in
+    let e = c.entry-x.ensures ∙ sym (get_or-take f.count f.at i 0 c.loop-i-test.true) in
+    rw e (distinct_at _ i _ c.requires.distinct (omega (arith, long, c.loop-i-test.true)))
 
 pub overflow_sub-q : goal.overflow_sub-q
 overflow_sub-q c =
     let s =
-    step c.args.f.now c.args.self.now.deep.ready (omega arith) c.requires.distinct c.loop-x-test.true c.loop-x.invariant
-    c.z_at-z.ensures.0 c.flipped.ensures in
+    step c.args.f.now c.args.self.now.deep.ready (omega arith) c.requires.distinct c.loop-i-test.true c.loop-i.invariant
+    c.entry-x.ensures c.z_at-z.ensures.0 c.flipped.ensures in
     (s.back c.if-flipped.true).0
 
 pub overflow_sub-sum : goal.overflow_sub-sum
 overflow_sub-sum c =
     let s =
-    step c.args.f.now c.args.self.now.deep.ready (omega arith) c.requires.distinct c.loop-x-test.true c.loop-x.invariant
-    c.z_at-z.ensures.0 c.flipped.ensures in
+    step c.args.f.now c.args.self.now.deep.ready (omega arith) c.requires.distinct c.loop-i-test.true c.loop-i.invariant
+    c.entry-x.ensures c.z_at-z.ensures.0 c.flipped.ensures in
     (s.back c.if-flipped.true).1
 
 pub overflow_add-q : goal.overflow_add-q
 overflow_add-q c =
     let s =
-    step c.args.f.now c.args.self.now.deep.ready (omega arith) c.requires.distinct c.loop-x-test.true c.loop-x.invariant
-    c.z_at-z.ensures.0 c.flipped.ensures in
+    step c.args.f.now c.args.self.now.deep.ready (omega arith) c.requires.distinct c.loop-i-test.true c.loop-i.invariant
+    c.entry-x.ensures c.z_at-z.ensures.0 c.flipped.ensures in
     omega (arith, s.q-most)
 
 pub overflow_add-sum : goal.overflow_add-sum
 overflow_add-sum c =
     let s =
-    step c.args.f.now c.args.self.now.deep.ready (omega arith) c.requires.distinct c.loop-x-test.true c.loop-x.invariant
-    c.z_at-z.ensures.0 c.flipped.ensures in
+    step c.args.f.now c.args.self.now.deep.ready (omega arith) c.requires.distinct c.loop-i-test.true c.loop-i.invariant
+    c.entry-x.ensures c.z_at-z.ensures.0 c.flipped.ensures in
     omega (arith, s.sum-most, c.z_at-z.ensures.1)
 
-pub loop-x-preserved : goal.loop-x-preserved
-loop-x-preserved c =
+pub loop-i-preserved : goal.loop-i-preserved
+loop-i-preserved c =
     let s =
-    step c.args.f.now c.args.self.now.deep.ready (omega arith) c.requires.distinct c.loop-x-test.true c.loop-x.invariant
-    c.z_at-z.ensures.0 c.flipped.ensures in
+    step c.args.f.now c.args.self.now.deep.ready (omega arith) c.requires.distinct c.loop-i-test.true c.loop-i.invariant
+    c.entry-x.ensures c.z_at-z.ensures.0 c.flipped.ensures in
     elim c.if-flipped.branch [
       | then-flipped w ↦ rw (w.q-is, w.sum-is) ((s.back w.if-flipped.true).2)
       | else-flipped w ↦ rw (w.q-is, w.sum-is) (s.out w.if-flipped.false)

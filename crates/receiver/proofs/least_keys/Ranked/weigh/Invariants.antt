@@ -7,7 +7,7 @@ use Rattle.chase.proofs.weighing.Weights.{Weighs}
 use Rattle.receiver.specs.Located.{flips_of}
 use Rattle.receiver.proofs.least_keys.Ranked.weigh.Given as goal
 
-abbrev pub invariant-loop-x : goal.invariant-loop-x
-invariant-loop-x l =
+abbrev pub invariant-loop-i : goal.invariant-loop-i
+invariant-loop-i l =
     let ss = l.self.symbols.now in
-    Weighs (reliabilities ss) (flipped_at (take l.x-index (flips_of l.f)) (test l.self.p ss l.j)) (hard_bits ss) l.q l.sum
+    Weighs (reliabilities ss) (flipped_at (take l.i (flips_of l.f)) (test l.self.p ss l.j)) (hard_bits ss) l.q l.sum
