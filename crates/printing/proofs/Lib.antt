@@ -1,5 +1,6 @@
 pub mod Cases
 pub mod Fields
+pub mod Lines
 pub mod Widths
 pub mod PageLaws
 pub mod Layings

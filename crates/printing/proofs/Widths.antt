@@ -19,7 +19,7 @@ signed_long (pos n) h = let l : n < 9999 = h in omega (arith, decimal_long 3 n (
 signed_long (negsuc n) h = let l : n < 9999 = h in omega (arith, decimal_long 3 (suc n) (omega arith))
 
 -- a mark's name has 4 characters
-mark_long : (m : Mark) → length (mark_name m) ≡ 4
+pub mark_long : (m : Mark) → length (mark_name m) ≡ 4
 unfolding mark_name ascii
 mark_long lost = refl
 mark_long fair = refl

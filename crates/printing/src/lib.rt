@@ -6,7 +6,7 @@
 //         Err(r) => { .. }                               // r.cause, r.place: the buffer is as it was
 //     }
 //
-// What has a `requires` is in the private module `pages` (the lines of a take).
+// What has a `requires` is in the private modules `line` (its fields) and `pages` (the lines of a take).
 #![tactic(auto)]
 
 ghost use Rattle.std.specs.Prelude.{◌≤◌, ◌≡◌, length};
@@ -19,6 +19,7 @@ use listing::{Take, Text};
 use receiver::Totals;
 use refusal::{Cause, Refusal};
 
+mod line;
 mod pages;
 
 // How long the strip of a take is: 25 bytes for each of its words and for each page's heading. Any bytes may be handed in: what can't be opened

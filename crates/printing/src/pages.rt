@@ -1,12 +1,12 @@
 // The lines of a take that is opened, and the headings of its pages.
-ghost use Rattle.std.specs.Prelude.{◌≤◌, ◌≡◌, [], ◌∷◌, ◌++◌, length};
+ghost use Rattle.std.specs.Prelude.{◌≡◌, ◌++◌, length};
 ghost use Rattle.take_format.specs.Take.{totals as Take·totals};
 ghost use Rattle.receiver.specs.Answer.{totals_told};
 ghost use Rattle.listing.specs.Written.{Written};
-ghost use Rattle.printing.specs.Layout.{padded, answer_row, heading_at, strip_length};
+ghost use Rattle.printing.specs.Layout.{answer_row, heading_at, strip_length};
 ghost use Rattle.printing.specs.Calls.{take_strip};
 
-use itoa::{Buffer, Integer};
+use crate::line::Line;
 use listing::{Row, Shown, Take, Text, name_of};
 use receiver::Totals;
 
@@ -29,38 +29,21 @@ fn page(text: &mut Text<'_>, w: usize)
     }
 }
 
-// A field, filled from the left with spaces to a width, and the character behind it.
-fn field(text: &mut Text<'_>, width: usize, new: &[u8], behind: u8)
-    requires { width ≤ 5 }
-    ensures { Written text.old (padded width new.now ++ (behind ∷ [])) text.new }
-{
-    text.characters(&b"     "[..width.saturating_sub(new.len())]);
-    text.characters(new);
-    text.character(behind);
-}
-
-// A number in base ten as a field, with a hyphen before a negative one.
-fn number<I: Integer>(text: &mut Text<'_>, width: usize, x: I, behind: u8)
-    requires { width ≤ 5 }
-    ensures { Written text.old (padded width (I.text x) ++ (behind ∷ [])) text.new }
-{
-    let mut digits = Buffer::new();
-    field(text, width, digits.format(x).as_bytes(), behind);
-}
-
 // The line of a word, with the heading of its page before the first.
-struct Line;
+struct Strip;
 
-impl Row for Line {
+impl Row for Strip {
     ghost form = { λ i a bits. heading_at i ++ answer_row i a };
 
     fn put(text: &mut Text<'_>, index: usize, shown: Shown, _message: &mut [u8]) {
         page(text, index);
-        number(text, 5, index, b' ');
-        field(text, 4, name_of(shown.mark), b' ');
-        number(text, 4, shown.distance, b' ');
-        number(text, 5, shown.margin, b' ');
-        number(text, 2, shown.tries, b'\n');
+        let mut line = Line::empty();
+        line.number(2, shown.tries, b'\n');
+        line.signed(5, shown.margin, b' ');
+        line.number(4, shown.distance, b' ');
+        line.characters(4, name_of(shown.mark), b' ');
+        line.number(5, index, b' ');
+        text.characters(line.text());
     }
 }
 
@@ -72,7 +55,7 @@ pub fn lay(take: Take<'_>, text: &mut Text<'_>) -> Totals
     if take.words() == 0 {
         text.characters(HEADING);
     }
-    take.write::<Line>(text)
+    take.write::<Strip>(text)
 }
 
 // The same on a buffer of the strip's length.

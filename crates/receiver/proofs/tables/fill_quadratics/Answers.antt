@@ -1,9 +1,9 @@
 -- The entries of the even elements below w are written. Assumes nothing.
-use Prim.Native.Nat.{ℕ, ◌+◌, ◌-◌, ◌*◌, ◌/◌, ◌^◌, ◌≤◌, ◌<◌}
+use Prim.Native.Nat.{ℕ, ◌+◌, ◌-◌, ◌*◌, ◌^◌, ◌≤◌, ◌<◌}
 use native.Mathlib.Omega.{arith}
 use mathlib.Core.Path.{◌≡◌, refl, ap, subst, ◌∙◌}
 use mathlib.Core.List.{List}
-use lib.ListN.{get_or, set}
+use lib.ListN.{get_or}
 use Rattle.galois.proofs.FieldTables.{even_size}
 use Rattle.bch.proofs.tables.CodeTables.{PairRoots, reduced, roots_in}
 use Rattle.bch.proofs.tables.TableLoops.{FieldFilled, filled_log_lt, pairs_step}
