@@ -1,6 +1,6 @@
 // The fields of a line, put from the last to the first: a field's spaces are then there already, and the line is put on the text in one piece.
 // (By `itoa::write_digits`, and no buffer of its own for each number. Field by field on the text, `print_take` took 15 percent longer.)
-ghost use Rattle.std.specs.Prelude.{◌≡◌, ◌+◌, ◌≤◌, [], ◌∷◌, ◌++◌, length, take, drop, replicate};
+ghost use Rattle.std.specs.Prelude.{◌≡◌, ◌+◌, ◌≤◌, ◌∷◌, ◌++◌, length, take, drop, replicate};
 ghost use Rattle.listing.specs.Text.{decimal, signed as Text·signed};
 ghost use Rattle.printing.specs.Layout.{padded};
 
@@ -15,16 +15,11 @@ pub struct Line {
 }
 
 impl Line {
-    // None.
-    pub fn empty() -> Line
-        ensures text { drop result.at result.bytes ≡ [] }
-        ensures at { result.at ≡ 105 }
-    {
-        Line {
-            bytes: [b' '; 105],
-            at: 105,
-        }
-    }
+    // None. (A constant: a function would make it in one place and copy it to the next.)
+    pub const EMPTY: Line = Line {
+        bytes: [b' '; 105],
+        at: 105,
+    };
 
     // Those that are put.
     pub fn text(&self) -> &[u8]

@@ -37,7 +37,7 @@ impl Row for Strip {
 
     fn put(text: &mut Text<'_>, index: usize, shown: Shown, _message: &mut [u8]) {
         page(text, index);
-        let mut line = Line::empty();
+        let mut line = Line::EMPTY;
         line.number(2, shown.tries, b'\n');
         line.signed(5, shown.margin, b' ');
         line.number(4, shown.distance, b' ');

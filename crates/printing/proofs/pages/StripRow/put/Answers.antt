@@ -26,5 +26,4 @@ returns c = λ a s b.
       c.signed.ensures.text,
       to_z-of_z fits,
       c.number.ensures.text,
-      c.empty-line.ensures.text,
     ) (ap (λ (t : List ℕ). heading_at i ++ t) (row_text i c.args.shown a s)))
