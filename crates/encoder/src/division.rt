@@ -53,7 +53,8 @@ fn parity(r: usize, g: u32, message: &[u8]) -> u32
     register
 }
 
-// Writes the register's lowest bits, bit i at position i. (`as`: no `From` goes to fewer bits.)
+// Writes the register's lowest bits, bit i at position i. (`as`: no `From` goes to fewer bits. The runner's `spread` is like it: in one place for both it
+// would be a public call.)
 fn write_parity(register: u32, parity: &mut [u8])
     ensures { parity.new ≡ word (length parity.old) register }
 {
@@ -64,7 +65,8 @@ fn write_parity(register: u32, parity: &mut [u8])
     }
 }
 
-// Writes the message. (By place: `copy_from_slice` asks C for memmove, and the calls for C need memcpy and memset alone.)
+// Writes the message. (`copy_from_slice` asks C for memmove, and the calls for C need memcpy and memset alone; under a `zip` a proof knows nothing of
+// what is written. The receiver's `copy` is like it: in one place for both it would be a public call.)
 fn write_message(message: &[u8], out: &mut [u8])
     requires { length out.old ≡ length message.now }
     ensures { out.new ≡ message.now }

@@ -17,7 +17,7 @@ use refusal::Refusal;
 mod division;
 
 // Writes the codeword that carries a message of n - m t bits: parity at positions 0 to m t - 1, the message behind it. Any m, t,
-// n, message and buffer may be handed in.
+// n, message and buffer may be handed in. (m, t and n are three numbers, as C hands them over.)
 pub fn encode(
     m: usize,
     t: usize,

@@ -70,9 +70,9 @@ impl<'a> Text<'a> {
     }
 }
 
-// The digits of a number at a place; answers where they end. (They are put by hand, and not through the text. `itoa` writes them into a buffer of
-// its own, from which they are then copied. By the processor time of `list` on 1,000 words of 63 symbols, receiver included, that took 2 percent
-// longer, and a text's `character` for each digit 4 percent.)
+// The digits of a number at a place; answers where they end. (They are put by hand, and not through the text. `itoa` writes them from the last on, so
+// that they have to be copied to their place. By the processor time of `list` on 1,000 words of 63 symbols, receiver included, that took 2 percent
+// longer, where a listing is within 1 percent of its bar (docs/DESIGN-PASS.md), and a text's `character` for each digit 4 percent.)
 fn digits(bytes: &mut [u8], at: usize, x: usize) -> usize
     requires { at ≤ length bytes.old }
     ensures { Put bytes.old at (decimal x) bytes.new result }

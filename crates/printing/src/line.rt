@@ -4,8 +4,9 @@ ghost use Rattle.std.specs.Prelude.{◌≡◌, ◌+◌, ◌≤◌, ◌∷◌, �
 ghost use Rattle.listing.specs.Text.{decimal, signed as Text·signed};
 ghost use Rattle.printing.specs.Layout.{padded};
 
-// What is put so far stands from `at` on, behind spaces. (An array that is long enough for five fields, of up to 20 characters and one behind
-// them: nothing is allocated.)
+// The fields that are put so far stand from `at` on, behind spaces. (An array that is long enough for five fields, each of up to 20 characters with one
+// behind it: nothing is allocated. Each method asks for room for one, which no type can hold, since it is taken. They differ in what they put: one
+// function for the three would take that as a closure, and say what it asks and promises.)
 #[derive(Drop)]
 pub struct Line {
     bytes: [u8; 105],
@@ -15,20 +16,20 @@ pub struct Line {
 }
 
 impl Line {
-    // None. (A constant: a function would make it in one place and copy it to the next.)
+    // No fields. (A constant: a function would make it in one place and copy it to the next.)
     pub const EMPTY: Line = Line {
         bytes: [b' '; 105],
         at: 105,
     };
 
-    // Those that are put.
+    // The fields that are put.
     pub fn text(&self) -> &[u8]
         ensures { result.now ≡ drop self.now.at self.now.bytes }
     {
         &self.bytes[self.at..]
     }
 
-    // Before them characters, filled from the left with spaces to a width, and the character behind.
+    // Puts a field before them: characters, filled from the left with spaces to a width, and the character behind it.
     pub fn characters(&mut self, width: usize, new: &[u8], behind: u8)
         requires { (21 ≤ self.old.at) × (width ≤ 20) × (length new.now ≤ 20) }
         ensures text { drop self.new.at self.new.bytes ≡ padded width new.now ++ (behind ∷ drop self.old.at self.old.bytes) }
@@ -41,7 +42,7 @@ impl Line {
         self.at = start.min(end - width);
     }
 
-    // A number in base ten. (`as`: no `From` goes from usize to 64 bits. Inlined, so that the place stays in a register.)
+    // The same of a number in base ten. (`as`: no `From` goes from usize to 64 bits. Inlined, so that the place stays in a register.)
     #[inline(always)]
     pub fn number(&mut self, width: usize, x: usize, behind: u8)
         requires { (21 ≤ self.old.at) × (width ≤ 20) }

@@ -12,7 +12,7 @@ ghost use Rattle.quantiser.specs.Told.{sample_told, heard_of, level_of, is_bad};
 use crate::{Sample, edges};
 use refusal::{Cause, Refusal};
 
-// Whether a sample is refused.
+// Whether a sample is refused. (Kinds are bytes, as C hands them over, until a sample is made of one.)
 fn bad(kind: u8, level: f32) -> bool
     ensures { result ≡ is_bad kind level }
 {
@@ -50,7 +50,7 @@ fn magnitude(level: f32) -> f32
     if level < 0.0 { -level } else { level }
 }
 
-// The hard bit of a level, at its place in a symbol.
+// The hard bit of a level, at its place in a symbol. (A choice of two numbers, and no test of the sign: -0 is not below 0.)
 fn hard_bit(level: f32) -> u8
     ensures value { result ≡ cond (lt level zero_level) 16 0 }
     ensures upper_bound { result ≤ 16 }

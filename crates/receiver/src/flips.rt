@@ -13,8 +13,8 @@ pub struct Flips {
 }
 
 impl Flips {
-    // The position at i. (A choice among three, and no index into them: what an index may reach lies in memory, and to copy it whole waits for
-    // what was just written into it. In a take a word of 63 symbols takes up to 2.7 percent less time so.)
+    // The position at i. (A choice among three, and no index into them: what an index may reach lies in memory, and a copy of the whole waits for
+    // what was just written into it. With a loop over `at` a word of 63 symbols takes up to 2.8 percent longer in a take.)
     pub(crate) fn entry(&self, i: usize) -> usize
         requires { i < 3 }
         ensures { result ≡ get_or self.now.at i 0 }

@@ -55,7 +55,8 @@ fn located(c: Code, numbers: &mut [u32], s: u32) -> Option<Flips>
     locate::next(&Tables { field }, &[u64::from(s)], 0).flips
 }
 
-// Flips the bit at position x, in the bits of a word from `from` on.
+// Flips the bit at position x, in the bits of a word from `from` on. (Here and in the soft stage `from` and the buffer are two: a struct of both would be
+// made in one place, and each step would take it apart.)
 #[tactic(auto, using(crate::proofs::Flipping::flipping))]
 pub fn flip(out: &mut [u8], from: usize, x: usize)
     requires { Bits out.old × (x < from + length out.old) }
@@ -67,7 +68,7 @@ pub fn flip(out: &mut [u8], from: usize, x: usize)
     }
 }
 
-// Flips the bits at the positions.
+// Flips the bits at the positions. (By `entry`, for speed: flips.rt.)
 #[tactic(auto, using(crate::proofs::Flipping::flipping), unfolding(bch::proofs::codes::Behind::flipped_from))]
 pub fn flip_at(out: &mut [u8], from: usize, f: &Flips)
     requires { Bits out.old × Below (from + length out.old) (flips_of f.now) }
@@ -78,7 +79,8 @@ pub fn flip_at(out: &mut [u8], from: usize, f: &Flips)
     }
 }
 
-// Copies bits. (By place: `copy_from_slice` asks C for memmove, and the calls for C need memcpy and memset alone.)
+// Copies bits. (`copy_from_slice` asks C for memmove, and the calls for C need memcpy and memset alone; under a `zip` a proof knows nothing of what is
+// written. The encoder's `write_message` is like it: in one place for both it would be a public call.)
 fn copy(bits: &[u8], out: &mut [u8])
     requires { length out.old ≡ length bits.now }
     ensures { out.new ≡ bits.now }
@@ -88,7 +90,8 @@ fn copy(bits: &[u8], out: &mut [u8])
     }
 }
 
-// The bits flipped at the positions that the hard stage flips, where it does; and these in its answer.
+// The bits flipped at the positions that the hard stage flips, where it does; and these in its answer. (That bits and buffer have the code's length is
+// said from `decode` on down: a struct that holds it would be made in one place and taken apart in the next.)
 #[tactic(auto, using(crate::proofs::Repairing::answers))]
 fn write(c: Code, f: Option<Flips>, bits: &[u8], codeword: &mut [u8]) -> Option<Flips>
     requires bits_len { (length bits.now ≡ c.n) × (length codeword.old ≡ c.n) × Bits bits.now }
@@ -114,8 +117,8 @@ fn decode_in(c: Code, numbers: &mut [u32], bits: &[u8], codeword: &mut [u8]) -> 
     write(c, located(c, numbers, s), bits, codeword)
 }
 
-// The hard stage, with tables of its own, as large as 2^m asks for. (Chosen here and in the soft stage: one function for both is slower there. Not
-// chosen by m: it was just written where a refusal has its cause, in parts, and to read it whole waits for them.)
+// The hard stage, with tables of its own, as large as 2^m asks for. (Chosen here and in the soft stage: see there. By
+// `powers`, since a read of m would come too soon: the check has just put it together, of the parts where a refusal has its cause.)
 pub fn decode(c: Code, bits: &[u8], codeword: &mut [u8]) -> Option<Flips>
     requires { Made c × (length bits.now ≡ c.n) × (length codeword.old ≡ c.n) × Bits bits.now }
     ensures answer { hard_of (Ok result) ≡ hard_record (inr (hard_stage (code_of c) bits.now)) }

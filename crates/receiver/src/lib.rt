@@ -27,7 +27,7 @@
 // it would be made in one place and taken apart in the next.
 //
 // (Modules `hard`, `soft` and `words` would differ only in case from the enums, which is refused. Numbers are cast by `as` where no `From`
-// goes: from 32 bits to usize, to fewer bits, and of an enum.)
+// goes: from 32 bits to usize, to fewer bits, and of an enum. The public calls take m, t and n as three numbers, and bytes of marks, as C hands them over.)
 #![tactic(auto)]
 
 ghost use Rattle.std.specs.Prelude.{◌≡◌, []};

@@ -13,7 +13,8 @@
 // What is found are roots by how the tables were filled (`trio_sums`), so that their sums need not be held to the syndromes; only positions at
 // or beyond n are refused. They are handed on in rising order, to both stages; only the last has then to be held to n.
 //
-// Each function is a step of the locator that is defined by logarithms, and rests on that step's law (bch `LogSteps`).
+// Each function is a step of the locator that is defined by logarithms, and rests on that step's law (bch `LogSteps`). (What it asks of its numbers it says
+// itself: they are others at each step, and a type around them would be made in one and taken apart in the next.)
 #![tactic(auto, using(crate::proofs::Locating::steps), unfolding(bch::specs::Hard::three_places, bch::proofs::tables::Placing::positions, bch::proofs::decoding::Sorting::sorted))]
 
 ghost use Rattle.std.specs.Prelude.{◌≡◌, ◌≢◌, [], ◌∷◌, ◌-◌, ◌%◌, ◌<◌, ◌≤◌, ◌^◌, length};
@@ -230,7 +231,7 @@ pub struct Spot {
     pub flips: Option<Flips>,
 }
 
-// Tries one word after the other, by the syndromes in its number, until positions are located; each try is counted as it is made. (Both
+// Tries one word after the other, by the syndromes in its number, until positions are located; each try is counted as it is made, by one. (Both
 // stages go through here: a function that is called from one place alone is compiled into it, and a try then costs no call of `locate`. It
 // also leaves the search with candidates alone; that the tries between two of them had none is the law `skip`, chase `search.Steps`.)
 pub fn next(tables: &Tables, tests: &[u64], made: usize) -> Spot

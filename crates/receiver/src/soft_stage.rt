@@ -122,8 +122,8 @@ fn decode_in(c: Code, numbers: &mut [u32], word: &Ranked, codeword: &mut [u8]) -
     tell(c.n, decode_word(&search, 0, codeword))
 }
 
-// The soft stage, with tables of its own, as large as 2^m asks for. (The hard stage chooses in the same way: one function that lends a closure
-// the room proves for both, but here it is slower, by 3 percent more instructions for 63 symbols.)
+// The soft stage, with tables of its own, as large as 2^m asks for. (The hard stage chooses in the same way. One function that lends a closure the
+// room proves for both, and is no plainer: it has to say what the closure asks and promises. Here it takes up to 3 percent more instructions.)
 pub fn decode(c: Code, p: usize, s: &[u8], codeword: &mut [u8]) -> Soft
     requires { Made c × (p ≤ 6) × (length s.now ≡ c.n) × (length codeword.old ≡ c.n) × Symbols s.now }
     ensures answer { soft_of (Ok result) codeword.new ≡ inr (soft_stage (code_of c) p s.now) }

@@ -1,6 +1,7 @@
 // The tables of a code, in one slice of 3·2^m + 16 numbers.
 //
-// By element x, 2^m entries: the logarithm of x. (That of 0 is an exponent of its own, whose powers are 0, so that S1 = 0 needs no branch.)
+// By element x, 2^m entries: the logarithm of x. (That of 0 is an exponent of its own, whose powers are 0, and no Option: an entry has 32 bits,
+// and S1 = 0 needs no branch.)
 // By exponent i, from `powers` on, 2^m + 8 entries: α^i, α^3i and α^5i in one number, as many of them as t says.
 // By exponent e, from `roots` on, 2^m + 8 entries: the logarithms of two roots in one number, 0 where there are none (and no Option, so that
 // an entry has 32 bits). For t = 2 they are those of w and w + 1, where w^2 + w = α^e; for t = 3 those of the last two w where
@@ -8,7 +9,7 @@
 //
 // A sum of exponents is folded once, and is then at most seven beyond the period: so the first eight entries stand again behind it.
 //
-// The slice is a local array of the stage that fills it: of 208, 784 or 3,088 numbers by m, since an array's length is part of its type;
+// The slice is a local array of the stage that fills it: of 208, 784 or 3,088 numbers by 2^m, since an array's length is part of its type;
 // several words always have the largest, which is cleared once. What it holds is one predicate, `CodeTables` (bch), for m up to 10.
 // Two types say how far it is filled: `Field`, with the tables of the field, and `Tables`, with the roots too. (While it is filled, it is lent
 // for writing and each step leaves it otherwise, so that no type says what it holds: there the code stands beside it.)

@@ -58,7 +58,7 @@ impl<'a> Ranked<'a> {
     }
 
     // q and L of test word j flipped at f, against the hard bits: from `start`, those of the test word, each position of f adds its flip,
-    // or takes it away where the test word flips it already.
+    // or takes it away where the test word flips it already. (By `entry`, for speed: flips.rt.)
     pub fn weigh(&self, j: usize, start: u32, f: &Flips) -> Weight
         requires distinct { Distinct (length self.now.symbols.now) (flips_of f.now) }
         requires start_value { start ≡ packed_weight (reliabilities self.now.symbols.now) (test self.now.p self.now.symbols.now j) (hard_bits self.now.symbols.now) }

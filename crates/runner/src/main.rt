@@ -21,6 +21,7 @@
 // A refusal is printed as `refused`, its number and its place; the hard stage's flips and positions stand behind that too. Behind every answer
 // stand the buffers, also behind a refusal. A line that begins with # is printed as it stands, and of another kind of line is said that it is
 // unknown. What is no digit counts as 0; what has no room in the program's own arrays is cut, and the answer then shows it.
+// (Arrays, and a length beside each: nothing is allocated.)
 #![tactic(auto)]
 
 mod fields;

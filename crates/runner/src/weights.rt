@@ -11,7 +11,7 @@ const ROOM: usize = 256;
 // The most message bits of a code that is counted.
 const MOST: usize = 24;
 
-// Makes the message whose bit i is bit i of the number.
+// Makes the message whose bit i is bit i of the number. (The encoder's `write_parity` is like it, and private.)
 fn spread(number: u32, message: &mut [u8]) {
     let mut rest = number;
     for bit in message.iter_mut() {
