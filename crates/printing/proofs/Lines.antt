@@ -1,7 +1,7 @@
 -- Laws of a line that is put from its end: characters that end at a place are a field, with the spaces that stand before them. Assumes nothing.
 use Rattle.std.proofs.Common.{ℕ, ◌+◌, ◌-◌, ◌≤◌, ◌≡◌, List, ◌∷◌, ◌++◌, length, take, drop, min, replicate, ap, ap₂, subst, sym, ◌∙◌, arith}
 use mathlib.Core.List.{append_assoc}
-use lib.ListN.{set}
+use lib.ListN.{set, length-set}
 use borrow.Rule.Slice.PartMut.{put_mid}
 use Rattle.std.proofs.lemmas.List.{take-take, take-set-le, take-replicate, drop-replicate, take-append-drop, drop-take, drop-set, drop_at, length-take-le, drop-drop}
 use Rattle.std.proofs.lemmas.Slice.{take-put_mid_below}
@@ -42,10 +42,17 @@ hyphen old new now end start c some inside p =
           ∙ ap (take (start - 1)) p.before ∙ take-take (start - 1) start old (omega arith);
     }
 
--- with the character behind them and the spaces before them they are a field
+-- a field is put before what stands from a place on, and the spaces before it are as they were
+pub record Field (bytes : List ℕ) (at width : ℕ) (new : List ℕ) (behind : ℕ) (now : List ℕ) (r : ℕ) : Type 0 where
+  pub spaces : take r now ≡ replicate r 32
+  pub inside : r ≤ at
+  pub text : drop r now ≡ padded width new ++ (behind ∷ drop at bytes)
+  pub room : at ≤ r + 21
+
+-- with the character behind them and the spaces before them such characters are a field
 pub settled : (bytes new now : List ℕ) (at start width r behind : ℕ) → 21 ≤ at → at ≤ length bytes → take at bytes ≡ replicate at 32
     → width ≤ 20 → length new ≤ 20 → Ending (set bytes (at - 1) behind) (at - 1) new now start → r ≡ min start (at - 1 - width)
-    → (take r now ≡ replicate r 32) × (r ≤ at) × (drop r now ≡ padded width new ++ (behind ∷ drop at bytes)) × (at ≤ r + 21)
+    → Field bytes at width new behind now r
 unfolding padded
 settled bytes new now at start width r behind some inside free narrow short p least =
     let end = at - 1 in
@@ -64,13 +71,23 @@ settled bytes new now at start width r behind some inside free narrow short p le
     sym (drop-take r (start - r) now) ∙ ap (λ (k : ℕ). drop r (take k now)) sum ∙ ap (drop r) (blank start (omega arith))
     ∙ drop-replicate r start 32 ∙ ap (λ (k : ℕ). replicate k 32) gap in
     let back : drop (start - r) (drop r now) ≡ new ++ (behind ∷ drop at bytes) =
-    drop-drop (start - r) r now ∙ ap (λ (k : ℕ). drop k now) sum ∙ p.text ∙ ap (λ (t : List ℕ). new ++ t) tail in (
-      blank r most,
-      omega (arith, most, p.ends),
-      sym (take-append-drop (start - r) (drop r now)) ∙ ap₂ (λ (xs ys : List ℕ). xs ++ ys) front back
-          ∙ sym (append_assoc (replicate (width - length new) 32) new (behind ∷ drop at bytes)),
-      omega (arith, least, p.ends, short, narrow),
-    )
+    drop-drop (start - r) r now ∙ ap (λ (k : ℕ). drop k now) sum ∙ p.text ∙ ap (λ (t : List ℕ). new ++ t) tail in
+    record {
+      spaces = blank r most;
+      inside = omega (arith, most, p.ends);
+      text =
+          sym (take-append-drop (start - r) (drop r now)) ∙ ap₂ (λ (xs ys : List ℕ). xs ++ ys) front back
+          ∙ sym (append_assoc (replicate (width - length new) 32) new (behind ∷ drop at bytes));
+      room = omega (arith, least, p.ends, short, narrow);
+    }
+
+-- and so are characters that are copied
+pub copied_field : (bytes new part : List ℕ) (at width r behind : ℕ) → 21 ≤ at → at ≤ length bytes → take at bytes ≡ replicate at 32
+    → (width ≤ 20) × (length new ≤ 20) → part ≡ new → r ≡ min (at - 1 - length new) (at - 1 - width)
+    → Field bytes at width new behind (put_mid (at - 1 - length new) (at - 1 - (at - 1 - length new)) (set bytes (at - 1) behind) part) r
+copied_field bytes new part at width r behind some inside free short e least =
+    let p = copied (set bytes (at - 1) behind) new part (at - 1) (omega arith) (omega (arith, length-set bytes (at - 1) behind)) e in
+    settled bytes new _ at (at - 1 - length new) width r behind some inside free short.0 short.1 p least
 
 -- the same characters by another name
 pub ending_said : {old now a b : List ℕ} {end start : ℕ} → Ending old end a now start → a ≡ b → Ending old end b now start

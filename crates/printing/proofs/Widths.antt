@@ -1,22 +1,21 @@
 -- The answers of the soft stage have room in a line. Assumes nothing.
-use Prim.Native.Nat.{ℕ, suc, ◌^◌, ◌≤◌, ◌<◌}
+use Prim.Native.Nat.{ℕ, ◌+◌, ◌^◌, ◌≤◌, ◌<◌}
 use native.Mathlib.Omega.{arith}
-use mathlib.Core.Path.{◌≡◌, refl}
-use lib.IntN.{ℤ, pos, negsuc}
+use mathlib.Core.Path.{◌≡◌, refl, ap}
+use lib.IntN.{ℤ}
 use lib.ListN.{length}
 use lib.Pow.{pow_mono}
 use lib.Signed.{mag}
 use Rattle.chase.specs.Soft.{Answer, Mark, lost, fair, sure}
 use Rattle.chase.proofs.weighing.Bounded.{BoundedAnswer}
 use Rattle.listing.specs.Text.{ascii, signed, mark_name}
-use Rattle.listing.proofs.Decimals.{decimal_long}
+use Rattle.listing.proofs.Decimals.{decimal_long, signed_lem}
+use Rattle.std.proofs.lemmas.Fmt.{length_signed_le}
 use Rattle.printing.specs.Layout.{Narrow}
 
--- a number of up to four digits has room for its sign
-signed_long : (z : ℤ) → mag z < 9999 → length (signed z) ≤ 5
-unfolding signed
-signed_long (pos n) h = let l : n < 9999 = h in omega (arith, decimal_long 3 n (omega arith))
-signed_long (negsuc n) h = let l : n < 9999 = h in omega (arith, decimal_long 3 (suc n) (omega arith))
+-- a number of up to k digits has room for its sign
+pub signed_most : (k : ℕ) (z : ℤ) → mag z + 1 < 10 ^ k → mag z < 2 ^ 63 → length (signed z) ≤ k + 1
+signed_most k z few small = omega (arith, length_signed_le k z few small, ap length (signed_lem z small))
 
 -- a mark's name has 4 characters
 pub mark_long : (m : Mark) → length (mark_name m) ≡ 4
@@ -33,6 +32,6 @@ answer_narrow i p few depth a s =
       index = decimal_long 4 i (omega arith);
       mark = mark_long a.mark;
       distance = decimal_long 3 a.distance (omega (arith, s.distance, s.flips));
-      margin = signed_long a.margin (omega (arith, s.margin));
+      margin = signed_most 4 a.margin (omega (arith, s.margin)) (omega (arith, s.margin));
       tries = decimal_long 1 a.tries (omega (arith, s.tries));
     }

@@ -1,23 +1,19 @@
 -- By the sign: the digits, or a hyphen and the digits. Assumes nothing.
-use Rattle.std.proofs.Common.{ℕ, ◌-◌, ◌^◌, ◌≤◌, ◌<◌, ◌≡◌, ◌∷◌, List, length, set, ap, ◌∙◌, arith}
-use lib.IntN.{ℤ}
-use lib.Signed.{mag}
+use Rattle.std.proofs.Common.{ℕ, ◌-◌, ◌≤◌, ◌≡◌, ◌∷◌, List, length, set, ap, ◌∙◌, arith}
 use mir.Facts.{to_z-of_z}
 use Rattle.std.specs.Fmt.{decimal as std-decimal}
-use Rattle.std.proofs.lemmas.Fmt.{length-decimal-le, length_signed_le}
+use Rattle.std.proofs.lemmas.Fmt.{length-decimal-le}
 use Rattle.listing.specs.Text.{decimal, signed}
-use Rattle.listing.proofs.Decimals.{decimal_lem, signed_lem, below_zero, not_below}
+use Rattle.listing.proofs.Decimals.{decimal_lem, below_zero, not_below}
 use Rattle.listing.proofs.Rows.{margin_small}
-use Rattle.printing.proofs.Lines.{Ending, hyphen, ending_said, settled}
+use Rattle.printing.proofs.Lines.{Ending, Field, hyphen, ending_said, settled}
+use Rattle.printing.proofs.Widths.{signed_most}
 use Rattle.printing.proofs.line.Line.signed.Goals.{then-x-lt0, else-x-lt0}
 use Rattle.printing.proofs.line.Line.signed.Goals as goal
 
 -- a number of 32 bits has 10 digits at most
 short : (x : ℕ) → x ≤ 2147483648 → length (std-decimal x) ≤ 10
 short x h = length-decimal-le 10 x (omega arith) (omega (arith, h)) (omega (arith, h))
-
-short_signed : (z : ℤ) → mag z < 2 ^ 63 → length (signed z) ≤ 20
-short_signed z h = omega (arith, length_signed_le 19 z (omega (arith, h)) h, ap length (signed_lem z h))
 
 pub write_digits-start-requires : goal.write_digits-start-requires
 write_digits-start-requires c =
@@ -48,26 +44,19 @@ ends c =
       | else-x-lt0 b ↦ rw (b.self-is, b.start-is) (ending_said p (digits ∙ value ∙ not_below _ b.if-x-lt0.false ∙ same))
     ]
 
-pub invariant_of-self : goal.invariant_of-self
-invariant_of-self c =
+put : (c : goal.After-min-self) → (let line = c.args.self.now in
+    Field line.bytes line.at c.args.width (signed c.args.x) c.args.behind c.if-x-lt0.self.1.0 c.min-self.result)
+put c =
     let line = c.args.self.now in
-    let s =
+    let small = margin_small _ c.ranges.x in
     settled line.bytes (signed c.args.x) c.if-x-lt0.self.1.0 line.at c.if-x-lt0.start c.args.width c.min-self.result c.args.behind c.requires.0
-    (omega arith) line.spaces c.requires.1 (short_signed c.args.x (margin_small _ c.ranges.x)) (ends c) c.min-self.ensures in
-    record { spaces = s.0; inside = omega (arith, s.1, line.inside) }
+    (omega arith) line.spaces c.requires.1 (signed_most 19 c.args.x (omega (arith, small)) small) (ends c) c.min-self.ensures
+
+pub invariant_of-self : goal.invariant_of-self
+invariant_of-self c = record { spaces = (put c).spaces; inside = omega (arith, (put c).inside, c.args.self.now.inside) }
 
 pub returns-clause-text : goal.returns-clause-text
-returns-clause-text c =
-    let line = c.args.self.now in
-    let s =
-    settled line.bytes (signed c.args.x) c.if-x-lt0.self.1.0 line.at c.if-x-lt0.start c.args.width c.min-self.result c.args.behind c.requires.0
-    (omega arith) line.spaces c.requires.1 (short_signed c.args.x (margin_small _ c.ranges.x)) (ends c.before) c.min-self.ensures in
-    s.2
+returns-clause-text c = (put c.before).text
 
 pub returns-clause-room : goal.returns-clause-room
-returns-clause-room c =
-    let line = c.args.self.now in
-    let s =
-    settled line.bytes (signed c.args.x) c.if-x-lt0.self.1.0 line.at c.if-x-lt0.start c.args.width c.min-self.result c.args.behind c.requires.0
-    (omega arith) line.spaces c.requires.1 (short_signed c.args.x (margin_small _ c.ranges.x)) (ends c.before) c.min-self.ensures in
-    s.3
+returns-clause-room c = (put c.before).room
