@@ -57,33 +57,34 @@ z_at-z-requires c =
     let e = c.entry-x.ensures ∙ sym (get_or-take f.count f.at i 0 c.loop-i-test.true) in
     rw e (distinct_at _ i _ c.requires.distinct (omega (arith, long, c.loop-i-test.true)))
 
-pub overflow_sub-q : goal.overflow_sub-q
-overflow_sub-q c =
+-- where the test word flips the position, the weight is less by its flip
+taken : (c : goal.Then-flipped) → (1 ≤ c.loop-i.q) × (c.z_at-z.result ≤ c.loop-i.sum)
+taken c =
     let s =
     step c.args.f.now c.args.self.now.deep.ready (omega arith) c.requires.distinct c.loop-i-test.true c.loop-i.invariant
     c.entry-x.ensures c.z_at-z.ensures.0 c.flipped.ensures in
-    (s.back c.if-flipped.true).0
+    let less = s.back c.if-flipped.true in
+    (less.0, less.1)
+
+-- where it doesn't, it has room for one more
+given : (c : goal.Else-flipped) → (c.loop-i.q ≤ 1023) × (c.loop-i.sum ≤ 15345)
+given c =
+    let s =
+    step c.args.f.now c.args.self.now.deep.ready (omega arith) c.requires.distinct c.loop-i-test.true c.loop-i.invariant
+    c.entry-x.ensures c.z_at-z.ensures.0 c.flipped.ensures in
+    (s.q-most, s.sum-most)
+
+pub overflow_sub-q : goal.overflow_sub-q
+overflow_sub-q c = (taken c).0
 
 pub overflow_sub-sum : goal.overflow_sub-sum
-overflow_sub-sum c =
-    let s =
-    step c.args.f.now c.args.self.now.deep.ready (omega arith) c.requires.distinct c.loop-i-test.true c.loop-i.invariant
-    c.entry-x.ensures c.z_at-z.ensures.0 c.flipped.ensures in
-    (s.back c.if-flipped.true).1
+overflow_sub-sum c = (taken c).1
 
 pub overflow_add-q : goal.overflow_add-q
-overflow_add-q c =
-    let s =
-    step c.args.f.now c.args.self.now.deep.ready (omega arith) c.requires.distinct c.loop-i-test.true c.loop-i.invariant
-    c.entry-x.ensures c.z_at-z.ensures.0 c.flipped.ensures in
-    omega (arith, s.q-most)
+overflow_add-q c = omega (arith, (given c).0)
 
 pub overflow_add-sum : goal.overflow_add-sum
-overflow_add-sum c =
-    let s =
-    step c.args.f.now c.args.self.now.deep.ready (omega arith) c.requires.distinct c.loop-i-test.true c.loop-i.invariant
-    c.entry-x.ensures c.z_at-z.ensures.0 c.flipped.ensures in
-    omega (arith, s.sum-most, c.z_at-z.ensures.1)
+overflow_add-sum c = omega (arith, (given c).1, c.z_at-z.ensures.1)
 
 pub loop-i-preserved : goal.loop-i-preserved
 loop-i-preserved c =
