@@ -7,13 +7,13 @@
 // `requires`.
 #![tactic(auto)]
 
-ghost use Rattle.std.specs.Prelude.{◌≡◌, ◌*◌, ◌≤◌, ◌^◌, max, fold, drop, position, nat_lt, Some};
+ghost use Rattle.std.specs.Prelude.{ℕ, ◌≡◌, ◌*◌, ◌≤◌, ◌^◌, max, fold, drop, position, nat_lt, Some};
 ghost use Rattle.galois.specs.Field.{poly};
 ghost use Rattle.bch.specs.Code.{code, word_length, message_length};
-ghost use Rattle.take_format.specs.Refusal.{first_of, unless_at_most, bits_check, symbols_check, words_check};
+ghost use Rattle.take_format.specs.Refusal.{first_of, refused, unless_at_most, bits_check, symbols_check, words_check};
 ghost use Rattle.take_format.specs.Refusal.{settings as Refusal·settings};
 ghost use Rattle.take_format.specs.Calls.{answered};
-ghost use Rattle.refusal.specs.Checked.{number_of, text_of, checked};
+ghost use Rattle.refusal.specs.Checked.{number_of, text_of, checked, by_number, refused_at};
 ghost use Rattle.refusal.specs.Named.{named_of, named_by, record_of, code_of, Made};
 
 use std::fmt;
@@ -70,6 +70,20 @@ impl fmt::Display for Refusal {
     fn fmt<W: fmt::Write>(&self, f: &mut fmt::Formatter<W>) -> fmt::Result {
         write!(f, "refused {} {}", self.cause.number(), self.place)
     }
+}
+
+// A refusal of any number, for callers with causes of their own.
+#[derive(Clone, Copy, Debug, PartialEq, Eq)]
+pub struct ByNumber {
+    pub number: usize,
+    pub place: usize,
+}
+
+// Refused with a number, at a place.
+pub fn refuse(number: usize, place: usize) -> Result<(), ByNumber>
+    ensures { by_number result ≡ refused number place }
+{
+    Err(ByNumber { number, place })
 }
 
 // A code (document 01, "The codes"): the settings that name it, with what follows from them. Made by `settings`, and worked out nowhere
@@ -168,23 +182,42 @@ fn first_above(most: u8, bytes: &[u8]) -> Option<usize>
     bytes.iter().position(|&b| most < b)
 }
 
+// The place of the first byte above `most` from place `start` on, counted from the first of all bytes.
+fn above_from(most: u8, bytes: &[u8], start: usize) -> Option<usize>
+    ensures { (k : ℕ) → refused_at k result ≡ unless_at_most k most start (drop start bytes.now) }
+{
+    let rest = bytes.get(start..)?;
+    if highest(rest) <= most {
+        return None;
+    }
+    // (There is one: the highest is above.)
+    let i = first_above(most, rest)?;
+    Some(start + i)
+}
+
 // Bytes that are at most `most` from place `start` on, refused otherwise for a cause at the first that is above; its place counts from
 // the first of all bytes. Where there are none from `start` on, they pass.
+#[tactic(auto, unfolding(crate::specs::Checked::checked))]
 pub fn at_most_from(cause: Cause, most: u8, bytes: &[u8], start: usize) -> Result<(), Refusal>
     ensures { checked result ≡ unless_at_most (number_of cause) most start (drop start bytes.now) }
 {
-    let Some(rest) = bytes.get(start..) else {
-        return Ok(());
-    };
-    if highest(rest) <= most {
-        return Ok(());
+    match above_from(most, bytes, start) {
+        Some(place) => Err(Refusal { cause, place }),
+        None => Ok(()),
     }
-    // (`None` can't be: the highest is above.)
-    match first_above(most, rest) {
-        Some(i) => Err(Refusal {
-            cause,
-            place: start + i,
-        }),
+}
+
+// The same, refused with any number.
+pub fn at_most_by_number(
+    number: usize,
+    most: u8,
+    bytes: &[u8],
+    start: usize,
+) -> Result<(), ByNumber>
+    ensures { by_number result ≡ unless_at_most number most start (drop start bytes.now) }
+{
+    match above_from(most, bytes, start) {
+        Some(place) => refuse(number, place),
         None => Ok(()),
     }
 }
