@@ -12,7 +12,7 @@ use Rattle.chase.specs.Soft.{Answer, Mark as Told, lost, fair, sure, answer, los
 use Rattle.take_format.specs.Batch.{mark_byte, Totals, counted_of, capped, counted_answer}
 use Rattle.refusal.specs.Checked.{answer_of}
 use Rattle.refusal.specs.declared.Refusal.{Refusal}
-use Rattle.receiver.specs.Answer.{found_of, soft_of, byte_of}
+use Rattle.receiver.specs.Answer.{found_of, soft_of, with_answer, byte_of}
 use Rattle.receiver.specs.Search.{answer_in, written_from, mark_in}
 use Rattle.receiver.specs.contracts.Mark.{the_type}
 use Rattle.receiver.specs.declared.Mark as declared
@@ -63,10 +63,16 @@ word_written from a old n = go a.mark refl n
 
 -- ---- an answer's case
 
--- an answer is counted by its mark and its tries, whatever word stands beside it
+-- totals with one more answer are those of `counted_answer`, ..
+pub with_counted : (k : Totals) (a : Result Soft Refusal) → with_answer k a ≡ counted_answer k (soft_of a [])
+unfolding answer_of counted_answer with_answer
+with_counted k (Err r) = refl
+with_counted k (Ok a) = refl
+
+-- .. and an answer is counted by its mark and its tries, whatever word stands beside it
 pub counts : (k : Totals) (a : Result Soft Refusal) (word : List ℕ) (answer : Answer) → soft_of a word ≡ inr answer
-    → counted_answer k (soft_of a []) ≡ capped (counted_of k (mark_byte answer.mark) answer.tries)
-unfolding answer_of found_of lost_answer counted_answer
+    → with_answer k a ≡ capped (counted_of k (mark_byte answer.mark) answer.tries)
+unfolding answer_of found_of lost_answer counted_answer with_answer
 counts k (Err r) word answer h = cc
 counts k (Ok (Lost tries)) word answer h = let e : found_of word (Lost tries) ≡ answer = cc in rw (← e) refl
 counts k (Ok (Fair f)) word answer h = let e : found_of word (Fair f) ≡ answer = cc in rw (← e) refl

@@ -1,9 +1,10 @@
 -- What the receiver's answers mean, in document 01's numbers. Assumes nothing.
 use Rattle.std.specs.Prelude.{ℕ, ◌⊎◌, List, [], Result, Ok, Err, Option as Rust·Option, Some, None}
+use Rattle.std.proofs.Common.{inr}
 use Rattle.chase.specs.Soft.{Answer, Mark, fair, sure, lost_answer}
 use Rattle.take_format.specs.Calls.{HardAnswer, refused, lost, found, flipped_in}
 use Rattle.take_format.specs.Refusal as take_format
-use Rattle.take_format.specs.Batch.{Totals}
+use Rattle.take_format.specs.Batch.{Totals, counted_answer}
 use Rattle.refusal.specs.Checked.{refusal_of, answer_of}
 use Rattle.refusal.specs.declared.Refusal.{Refusal}
 use Rattle.receiver.specs.declared.flips.Flips.{Flips}
@@ -48,6 +49,12 @@ byte_of Mark.Sure = 2
 -- the five totals
 abbrev pub totals_told : struct.Totals → Totals
 totals_told k = record { words = k.words; sures = k.sure; fairs = k.fair; losts = k.lost; tries = k.tries }
+
+-- totals with one more answer; a refusal, whatever it says, leaves them as they are. (Of this crate's refusals: `counted_answer` of what
+-- `soft_of` reads, by the law `with_counted`.)
+unfoldable pub with_answer : {E : Type 0} → Totals → Result Soft E → Totals
+with_answer k (Ok a) = counted_answer k (inr (found_of [] a))
+with_answer k (Err _) = k
 
 -- the answer to several words: a refusal, or their totals
 abbrev pub words_of : Result struct.Totals Refusal → take_format.Refusal ⊎ Totals

@@ -30,11 +30,11 @@
 // goes: from 32 bits to usize, to fewer bits, and of an enum. The public calls take m, t and n as three numbers, and bytes of marks, as C hands them over.)
 #![tactic(auto)]
 
-ghost use Rattle.std.specs.Prelude.{◌≡◌, []};
+ghost use Rattle.std.specs.Prelude.{◌≡◌};
 ghost use Rattle.bch.specs.Code.{code};
 ghost use Rattle.take_format.specs.Calls.{hard_answer, hard_buffer, soft_answer, soft_buffer, words_answer, messages_buffer, marks_buffer};
-ghost use Rattle.take_format.specs.Batch.{counted_of, capped, counted_answer};
-ghost use Rattle.receiver.specs.Answer.{hard_of, soft_of, totals_told, words_of, byte_of};
+ghost use Rattle.take_format.specs.Batch.{counted_of, capped};
+ghost use Rattle.receiver.specs.Answer.{hard_of, soft_of, totals_told, with_answer, words_of, byte_of};
 
 pub use flips::Flips;
 use refusal::Refusal;
@@ -145,10 +145,10 @@ impl Totals {
         }
     }
 
-    // With one more answer, for whoever decodes word by word. A refusal leaves them as they are, and no total goes beyond the largest number,
-    // so that nothing is required of them. (A take's totals are far below: `few_capped`, in take_format.)
-    pub fn counted(self, answer: Result<Soft, Refusal>) -> Totals
-        ensures { totals_told result ≡ counted_answer (totals_told self) (soft_of answer []) }
+    // With one more answer, for whoever decodes word by word. A refusal, of whatever type, leaves them as they are, and no total goes beyond the
+    // largest number, so that nothing is required of them. (A take's totals are far below: `few_capped`, in take_format.)
+    pub fn counted<E: Copy>(self, answer: Result<Soft, E>) -> Totals
+        ensures { totals_told result ≡ with_answer (totals_told self) answer }
     {
         match answer {
             Err(_) => self,
