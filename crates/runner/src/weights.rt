@@ -20,9 +20,12 @@ fn spread(number: u32, message: &mut [u8]) {
     }
 }
 
-// How many positions of the codeword are not 0.
+// How many positions of the codeword are not 0. (A sum: a filter's branch takes twice as long.)
 fn weight(codeword: &[u8]) -> usize {
-    codeword.iter().filter(|bit| **bit != 0).count()
+    codeword.iter().fold(
+        0,
+        |sum: usize, bit| sum.wrapping_add(usize::from(*bit != 0)),
+    )
 }
 
 // Encodes one message and counts its codeword at its weight. No count wraps: there are at most 2^24 codewords.
