@@ -2,17 +2,21 @@
 // writes.
 #![tactic(auto)]
 
+ghost use Rattle.printing.specs.Calls.{strip_output};
+
 use filter::Filter;
 use std::io;
 
 struct Strip;
 
 impl Filter for Strip {
+    ghost output = { strip_output };
+
     fn print(input: &[u8], text: &mut [u8; 900000]) -> usize {
         printing::print(input, text)
     }
 }
 
 fn main(rt: HostRuntime) -> io::Result<()> {
-    filter::run::<Strip>(&rt)
+    filter::run::<Strip, _, _>(&mut rt.reader(), &mut io::writer(&rt))
 }

@@ -2,17 +2,21 @@
 // `listing::list` writes.
 #![tactic(auto)]
 
+ghost use Rattle.listing.specs.Takelist.{takelist};
+
 use filter::Filter;
 use std::io;
 
 struct Takelist;
 
 impl Filter for Takelist {
+    ghost output = { takelist };
+
     fn print(input: &[u8], text: &mut [u8; 900000]) -> usize {
         listing::list(input, text)
     }
 }
 
 fn main(rt: HostRuntime) -> io::Result<()> {
-    filter::run::<Takelist>(&rt)
+    filter::run::<Takelist, _, _>(&mut rt.reader(), &mut io::writer(&rt))
 }
