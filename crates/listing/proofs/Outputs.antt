@@ -47,10 +47,7 @@ module _ (bs : List ℕ) where
       ∙ take_text_lem h ok ∙ opened_input short (inr h) e
 
   -- a word has at least 6 symbols, so that all lines have room
-  module _ (short : length bs ≤ 65536) (h : Header) (e : open_answer bs ≡ inr h) where
-    abbrev ok : Reading bs h
-    ok = reading bs h e
-
+  module _ (h : Header) (ok : Reading bs h) (short : length bs ≤ 65536) where
     six : h.words * 6 ≤ h.words * word_length h.code
     six = mul-le-mul_left h.words (word_long h.code (is_code bs h ok)).0
 

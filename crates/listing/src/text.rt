@@ -37,7 +37,7 @@ impl<'a> Text<'a> {
     {
         let count = (self.bytes.len() - self.at).min(new.len());
         let end = self.at + count;
-        self.bytes[self.at..end].copy_from_slice(&new[..count]);
+        copy(&new[..count], &mut self.bytes[self.at..end]);
         self.at = end;
     }
 
@@ -67,6 +67,24 @@ impl<'a> Text<'a> {
             self.character(b'-');
         }
         self.number(x.unsigned_abs() as usize, behind);
+    }
+}
+
+// Copies characters: eight at a time, and the last ones one by one. (`copy_from_slice` of any length would ask C for memcpy, as a loop over each
+// would, and nothing else in the calls for C does.)
+fn copy(new: &[u8], out: &mut [u8])
+    requires { length out.old ≡ length new.now }
+    ensures { out.new ≡ new.now }
+{
+    let mut at = 0;
+    while at < new.len() {
+        if 8 <= new.len() - at {
+            out[at..at + 8].copy_from_slice(&new[at..at + 8]);
+            at += 8;
+        } else {
+            out[at] = new[at];
+            at += 1;
+        }
     }
 }
 

@@ -13,8 +13,9 @@ use Rattle.bch.specs.Code.{message_length}
 use Rattle.take_format.specs.Refusal.{Refusal, refused, unless, output_length}
 use Rattle.take_format.specs.Batch.{Totals}
 use Rattle.take_format.specs.Take.{header, header_refusal, take_symbols_check, open_refusal, take_refusal, message_bytes, mark_bytes, totals}
-use Rattle.take_format.proofs.checks.RefusalLaws.{some_not_none, first_cons, first_some, first_none}
-use Rattle.take_format.proofs.checks.CallLaws.{answered_inr}
+use Rattle.take_format.proofs.checks.RefusalLaws.{IfRefused, some_not_none, first_cons, first_some, first_none}
+use Rattle.take_format.proofs.checks.CallLaws.{answered_inl, answered_inr}
+use Rattle.take_format.proofs.checks.Numbers.{Numbered, numbered_open}
 use Rattle.take_format.proofs.takes.PromiseLaws.{take_promise}
 use Rattle.printing.specs.Layout.{strip_length}
 use Rattle.printing.specs.Calls.{strip_refusal, length_answer, strip_answer}
@@ -41,6 +42,16 @@ module _ (bs strip : List ℕ) where
       go (some r) e b f = inl (strip_first bs strip r (sym e) ∙ first_some (header_refusal bs) (take_symbols_check bs ∷ []) r (sym e))
       go none e true f = inl (strip_last bs strip (sym e) (eqb-true _ _ f))
       go none e false f = inr (strip_room bs strip (sym e) (eqb-false _ _ f))
+
+  numbered_strip : IfRefused Numbered (strip_refusal bs strip)
+  numbered_strip r e = elim strip_refused [
+    | inl q ↦ numbered_open bs r (sym q ∙ e)
+    | inr q ↦ let z : r.number ≡ 7 = cc in (omega arith, omega arith)
+  ]
+
+  pub strip_number : (r : Refusal) → inl r ≡ strip_answer bs strip → r.number < 128
+  unfolding strip_answer
+  strip_number r e = omega (arith, (numbered_strip r (sym (answered_inl _ _ r e))).1)
 
   strip_opened : strip_refusal bs strip ≡ none → open_refusal bs ≡ none
   strip_opened e = elim strip_refused [

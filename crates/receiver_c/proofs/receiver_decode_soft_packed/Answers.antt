@@ -1,4 +1,5 @@
 -- What the soft stage answers, packed. Assumes nothing.
+use native.Mathlib.Omega.{arith}
 use mathlib.Core.Path.{ap, ◌∙◌}
 use Rattle.bch.specs.Code.{code}
 use Rattle.chase.specs.Soft.{lost_answer}
@@ -14,7 +15,7 @@ answer-requires c =
     let a = c.args in
     let e = rw c.in-Ok-Sure.field-0-is at c.in-Ok-Sure.ensures.answer in
     let room = soft_room (code a.m a.t a.n) a.depth a.symbols.now a.codeword.now _ e in
-    record { bytes_bound = (room.flips, room.tries, room.place, room.distance); margin_bound = room.margin }
+    record { bytes_bound = (omega arith, omega arith, omega arith, omega arith); margin_bound = room.margin }
 
 pub answer-requires-in-Ok-Fair : goal.answer-requires-in-Ok-Fair
 unfolding answer_of found_of
@@ -22,7 +23,7 @@ answer-requires-in-Ok-Fair c =
     let a = c.args in
     let e = rw c.in-Ok-Fair.field-0-is at c.in-Ok-Fair.ensures.answer in
     let room = soft_room (code a.m a.t a.n) a.depth a.symbols.now a.codeword.now _ e in
-    record { bytes_bound = (room.flips, room.tries, room.place, room.distance); margin_bound = room.margin }
+    record { bytes_bound = (omega arith, omega arith, omega arith, omega arith); margin_bound = room.margin }
 
 pub answer-requires-in-Ok-Lost : goal.answer-requires-in-Ok-Lost
 unfolding answer_of found_of lost_answer
@@ -30,7 +31,7 @@ answer-requires-in-Ok-Lost c =
     let a = c.args in
     let e = rw c.in-Ok-Lost.field-0-is at c.in-Ok-Lost.ensures.answer in
     let room = soft_room (code a.m a.t a.n) a.depth a.symbols.now a.codeword.now _ e in
-    record { bytes_bound = (room.flips, room.tries, room.place, room.distance); margin_bound = room.margin }
+    record { bytes_bound = (omega arith, omega arith, omega arith, omega arith); margin_bound = room.margin }
 
 pub returns-in-Ok-Sure-clause-answer : goal.returns-in-Ok-Sure-clause-answer
 unfolding answer_of found_of soft_packed answer_packed

@@ -9,6 +9,7 @@ use Rattle.listing.specs.Text.{ascii, line, too_long, word_line, totals_line}
 use Rattle.listing.specs.Rows.{opened_of, rows}
 use Rattle.listing.proofs.Texts.{said, then}
 use Rattle.listing.proofs.Rows.{Held, totals_long, refusal_long}
+use Rattle.listing.proofs.Words.{reading}
 use Rattle.listing.proofs.Outputs.{long_input, refused_input, take_input, rows_room}
 use Rattle.listing.proofs.lines.output.Goals as goal
 
@@ -41,7 +42,7 @@ returns-in-Ok-clause-upper_bound c =
       arith,
       ap length (take_input c.args.input.now c.if-input-gt65536.false h k e (c.write-k.ensures.totals ∙ ap totals same)),
       length-append (rows word_line c.args.input.now h h.words) (totals_line k),
-      rows_room c.args.input.now c.if-input-gt65536.false h e,
+      rows_room c.args.input.now h (reading c.args.input.now h e) c.if-input-gt65536.false,
       totals_long k held,
     )
 

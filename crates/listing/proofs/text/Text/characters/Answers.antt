@@ -6,5 +6,5 @@ use Rattle.listing.proofs.text.Text.characters.Goals as goal
 pub returns : goal.returns
 returns c =
     let t = c.args.self.now in
-    let p = copied t.bytes.now c.args.new.now c.copy_from_slice.new.self t.at c.min-count.result (omega arith) (search rules) (search rules) in
+    let p = copied t.bytes.now c.args.new.now c.copy.new.out t.at c.min-count.result (omega arith) (search rules) (search rules) in
     record { same = refl; text = p.0; rest = p.1 }
