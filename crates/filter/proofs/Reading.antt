@@ -1,5 +1,6 @@
 -- What was read from a reader whose bytes are known, and what is written for it. Assumes nothing.
-use Rattle.std.proofs.Common.{◌≡◌, ℕ, ◌+◌, ◌-◌, ◌<◌, ◌≤◌, inl, inr, List, ◌++◌, None, Some, Result, Ok, Err, IfSome, OnOk, OnErr, sym, ap, subst, ◌∙◌, append-nil, length, take, take_all, take_at, length-take-le, arith}
+use Rattle.std.proofs.Common.{◌≡◌, ℕ, ◌+◌, ◌-◌, ◌<◌, ◌≤◌, inl, inr, List, ◌++◌, None, Some, Result, Ok}
+use Rattle.std.proofs.Common.{Err, IfSome, OnOk, OnErr, sym, ap, subst, ◌∙◌, append-nil, length, take, take_all, take_at, length-take-le, arith}
 use Rattle.std.proofs.Math.Nat.{eq-or-lt_of_le}
 use lib.Seq.{take-append-le, take-append-add}
 use borrow.Rule.Slice.PartMut.{put_mid, take_put}
@@ -29,7 +30,7 @@ module _ (a b c : Option (List ℕ)) (buffer part : List ℕ) (at : ℕ) (inside
   pub none_read : Keeps b c → Consumes a c (take at now)
   none_read kept = subst (Consumes a c) (sym (take_put at _ buffer part inside)) (Consumes-kept a b c _ before kept)
 
--- where a buffer is full or the reader at its end, what was read is the front of what there was, as long as the buffer
+-- where a buffer is full or the reader at its end, what was read is the front of what there was, of the buffer's length
 pub front_read : (a b : Option (List ℕ)) (n room : ℕ) (buffer : List ℕ) → length buffer ≡ room → n ≤ length buffer → Consumes a b (take n buffer)
     → (n < length buffer → IsAtEnd b) → IfSome a (λ bytes. take n buffer ≡ take room bytes)
 front_read None b n room buffer long fits read end = tt

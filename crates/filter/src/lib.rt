@@ -38,8 +38,8 @@ pub fn read_full<R: Read>(input: &mut R, buffer: &mut [u8]) -> io::Result<usize>
     Ok(done)
 }
 
-// Writes what the program prints for the whole of its input, and nothing else. One byte more is read than the programs accept, so that longer
-// input is told apart. (What is known of the bytes says it: of a file or a terminal nothing is.)
+// Writes what the program prints for its input, and nothing else, where nothing fails. One byte more is read than the programs accept, so that
+// longer input is told apart. (The clauses speak where the reader's bytes are known, as a slice's are; those of a file or a terminal are not.)
 pub fn run<F: Filter, R: Read, W: Write>(reader: &mut R, writer: &mut W) -> io::Result<()>
     ensures read { OnOk result (IfSome (R.remaining reader.old) (λ bytes. Consumes (R.remaining reader.old) (R.remaining reader.new) (take 65537 bytes))) }
     ensures written { OnOk result (IfSome (R.remaining reader.old) (λ bytes. Appends (W.contents writer.old) (W.contents writer.new) (F.output (take 65537 bytes)))) }

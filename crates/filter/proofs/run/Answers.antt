@@ -1,3 +1,4 @@
+-- What was read is the front of the input, and the text is what is printed for it. Assumes nothing.
 use Rattle.std.proofs.Common.{◌≡◌, length, rules}
 use Rattle.filter.proofs.Reading.{front_read, consumed, written, at_front}
 use Rattle.filter.proofs.run.Goals as goal
