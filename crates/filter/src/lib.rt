@@ -8,6 +8,13 @@ use std::io::{self, Read, Write};
 
 // What a program prints for its input.
 pub trait Filter {
+    // Writes it to the front of a buffer, and answers how far.
+    fn print(input: &[u8], text: &mut [u8; 900000]) -> usize
+        ensures { result ≤ length text.new };
+}
+
+// The same, of a program whose output is known: it says by `output` what it prints.
+pub trait KnownFilter {
     ghost output: { List ℕ → List ℕ };
 
     // Writes it to the front of a buffer, and answers how far.
@@ -38,9 +45,22 @@ pub fn read_full<R: Read>(input: &mut R, buffer: &mut [u8]) -> io::Result<usize>
     Ok(done)
 }
 
-// Writes what the program prints for its input, and nothing else, where nothing fails. One byte more is read than the programs accept, so that
-// longer input is told apart. (The clauses speak where the reader's bytes are known, as a slice's are; those of a file or a terminal are not.)
-pub fn run<F: Filter, R: Read, W: Write>(reader: &mut R, writer: &mut W) -> io::Result<()>
+// Prints what the program prints for the whole of standard input. One byte more is read than the programs accept, so that longer input is told
+// apart. (No clause says what is printed: the library says nothing of the bytes that a runtime reads and prints.)
+pub fn run<F: Filter>(rt: &(impl Input + Print)) -> io::Result<()> {
+    let mut input = [0; 65537];
+    let mut text = [0; 900000];
+    let count = read_full(&mut rt.reader(), &mut input)?;
+    let length = F::print(&input[..count], &mut text);
+    rt.write_all(&text[..length])
+}
+
+// Writes what the program prints for its input, and nothing else, where nothing fails. It reads as much as `run`. (The clauses speak where the
+// reader's bytes are known, as a slice's are; those of a file or a terminal are not.)
+pub fn run_known<F: KnownFilter, R: Read, W: Write>(
+    reader: &mut R,
+    writer: &mut W,
+) -> io::Result<()>
     ensures read { OnOk result (IfSome (R.remaining reader.old) (λ bytes. Consumes (R.remaining reader.old) (R.remaining reader.new) (take 65537 bytes))) }
     ensures written { OnOk result (IfSome (R.remaining reader.old) (λ bytes. Appends (W.contents writer.old) (W.contents writer.new) (F.output (take 65537 bytes)))) }
 {
@@ -50,3 +70,6 @@ pub fn run<F: Filter, R: Read, W: Write>(reader: &mut R, writer: &mut W) -> io::
     let length = F::print(&input[..got], &mut text);
     writer.write_all(&text[..length])
 }
+
+#[cfg(test)]
+mod tests;

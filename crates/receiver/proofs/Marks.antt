@@ -1,6 +1,6 @@
 -- The mark, the tries and the word of a word's answer, by the outcome that it stands for or by its case. Assumes nothing.
 use Prim.Native.Nat.{ℕ}
-use mathlib.Core.Path.{◌≡◌, refl}
+use mathlib.Core.Path.{◌≡◌, refl, ◌∙◌}
 use mathlib.Core.Logic.{◌≢◌, inr}
 use mathlib.Core.List.{List, []}
 use denote.Enum.Bare.{sameb}
@@ -63,17 +63,22 @@ word_written from a old n = go a.mark refl n
 
 -- ---- an answer's case
 
+-- an answer is counted by its mark and its tries, whatever word stands beside it
+pub counts : (k : Totals) (a : Result Soft Refusal) (word : List ℕ) (answer : Answer) → soft_of a word ≡ inr answer
+    → counted_answer k (soft_of a []) ≡ capped (counted_of k (mark_byte answer.mark) answer.tries)
+unfolding answer_of found_of lost_answer counted_answer
+counts k (Err r) word answer h = cc
+counts k (Ok (Lost tries)) word answer h = let e : found_of word (Lost tries) ≡ answer = cc in rw (← e) refl
+counts k (Ok (Fair f)) word answer h = let e : found_of word (Fair f) ≡ answer = cc in rw (← e) refl
+counts k (Ok (Sure f)) word answer h = let e : found_of word (Sure f) ≡ answer = cc in rw (← e) refl
+
 -- totals with one more answer are those of `counted_answer`, ..
 pub with_counted : (k : Totals) (a : Result Soft Refusal) → with_answer k a ≡ counted_answer k (soft_of a [])
 unfolding answer_of counted_answer with_answer
 with_counted k (Err r) = refl
 with_counted k (Ok a) = refl
 
--- .. and an answer is counted by its mark and its tries, whatever word stands beside it
-pub counts : (k : Totals) (a : Result Soft Refusal) (word : List ℕ) (answer : Answer) → soft_of a word ≡ inr answer
+-- .. and count it so
+pub answer_counts : (k : Totals) (a : Result Soft Refusal) (word : List ℕ) (answer : Answer) → soft_of a word ≡ inr answer
     → with_answer k a ≡ capped (counted_of k (mark_byte answer.mark) answer.tries)
-unfolding answer_of found_of lost_answer counted_answer with_answer
-counts k (Err r) word answer h = cc
-counts k (Ok (Lost tries)) word answer h = let e : found_of word (Lost tries) ≡ answer = cc in rw (← e) refl
-counts k (Ok (Fair f)) word answer h = let e : found_of word (Fair f) ≡ answer = cc in rw (← e) refl
-counts k (Ok (Sure f)) word answer h = let e : found_of word (Sure f) ≡ answer = cc in rw (← e) refl
+answer_counts k a word answer h = with_counted k a ∙ counts k a word answer h

@@ -4,12 +4,12 @@
 
 ghost use Rattle.printing.specs.Calls.{strip_output};
 
-use filter::Filter;
+use filter::KnownFilter;
 use std::io;
 
 struct Strip;
 
-impl Filter for Strip {
+impl KnownFilter for Strip {
     ghost output = { strip_output };
 
     fn print(input: &[u8], text: &mut [u8; 900000]) -> usize {
@@ -18,5 +18,5 @@ impl Filter for Strip {
 }
 
 fn main(rt: HostRuntime) -> io::Result<()> {
-    filter::run::<Strip, _, _>(&mut rt.reader(), &mut io::writer(&rt))
+    filter::run_known::<Strip, _, _>(&mut rt.reader(), &mut io::writer(&rt))
 }

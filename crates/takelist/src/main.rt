@@ -4,12 +4,12 @@
 
 ghost use Rattle.listing.specs.Takelist.{takelist};
 
-use filter::Filter;
+use filter::KnownFilter;
 use std::io;
 
 struct Takelist;
 
-impl Filter for Takelist {
+impl KnownFilter for Takelist {
     ghost output = { takelist };
 
     fn print(input: &[u8], text: &mut [u8; 900000]) -> usize {
@@ -18,5 +18,5 @@ impl Filter for Takelist {
 }
 
 fn main(rt: HostRuntime) -> io::Result<()> {
-    filter::run::<Takelist, _, _>(&mut rt.reader(), &mut io::writer(&rt))
+    filter::run_known::<Takelist, _, _>(&mut rt.reader(), &mut io::writer(&rt))
 }
