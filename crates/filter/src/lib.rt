@@ -46,7 +46,8 @@ pub fn read_full<R: Read>(input: &mut R, buffer: &mut [u8]) -> io::Result<usize>
 }
 
 // Prints what the program prints for the whole of standard input. One byte more is read than the programs accept, so that longer input is told
-// apart. (No clause says what is printed: the library says nothing of the bytes that a runtime reads and prints.)
+// apart. (No clause says what is printed: the library says nothing of the bytes that a runtime reads and prints. Nor can this call `run_known`,
+// which asks for an `output`.)
 pub fn run<F: Filter>(rt: &(impl Input + Print)) -> io::Result<()> {
     let mut input = [0; 65537];
     let mut text = [0; 900000];

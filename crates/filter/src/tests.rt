@@ -17,12 +17,12 @@ impl Filter for Same {
     }
 }
 
-// Has an input, and tells whether the text was printed, if printing does not fail.
+// A runtime that has an input, and takes a text and no other; it counts how often, if printing does not fail.
 #[derive(Drop)]
 struct Memory<'a> {
     input: &'a [u8],
     text: &'a [u8],
-    printed: Cell<bool>,
+    prints: Cell<usize>,
     fails: Option<ErrorKind>,
 }
 
@@ -44,18 +44,21 @@ impl<'a> Input for Memory<'a> {
 
 impl Print for Memory<'_> {
     fn print<D: Display + Drop>(&self, _value: D) -> io::Result<()> {
-        Ok(())
+        Err(ErrorKind::Unsupported.into())
     }
 
     fn println<D: Display + Drop>(&self, _value: D) -> io::Result<()> {
-        Ok(())
+        Err(ErrorKind::Unsupported.into())
     }
 
     fn write_all(&self, bytes: &[u8]) -> io::Result<()> {
         if let Some(kind) = self.fails {
             return Err(kind.into());
         }
-        self.printed.set(bytes == self.text);
+        if bytes != self.text {
+            return Err(ErrorKind::InvalidData.into());
+        }
+        self.prints.set(self.prints.get().wrapping_add(1));
         Ok(())
     }
 }
@@ -73,11 +76,11 @@ fn prints_the_input(rt: HostRuntime) -> Result<(), Fail> {
         let memory = Memory {
             input,
             text,
-            printed: Cell::new(false),
+            prints: Cell::new(0),
             fails: None,
         };
         run::<Same>(&memory)?;
-        assert!(rt; memory.printed.get(), "of {} bytes", input.len());
+        assert_eq!(rt; memory.prints.get(), 1, "of {} bytes", input.len());
     }
     Ok(())
 }
@@ -87,8 +90,9 @@ fn tells_of_a_failed_write(rt: HostRuntime) {
     let memory = Memory {
         input: b"a line\n",
         text: b"a line\n",
-        printed: Cell::new(false),
+        prints: Cell::new(0),
         fails: Some(ErrorKind::StorageFull),
     };
-    assert!(rt; run::<Same>(&memory).is_err());
+    let failed = run::<Same>(&memory).err().map(|error| error.kind());
+    assert_eq!(rt; failed, Some(ErrorKind::StorageFull));
 }
